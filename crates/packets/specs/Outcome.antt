@@ -1,0 +1,46 @@
+-- What a call comes to: the values that it gives, or the refusal's number and place (document 01, "Refusal numbers and their order").
+-- `outcomeOf..` gives the number and the values of each case of an enum answer. Assumes nothing.
+use Prim.Native.Nat.{ℕ}
+use mathlib.Core.List.{List, []}
+use mathlib.Core.Bool.{Bool, true, false}
+use Rattle.packets.specs.declared.refusal.Refusal.{Refusal}
+use Rattle.packets.specs.declared.refusal.Refusal.the-variants.{Short, NoPackets, TooManyPackets, Size, Deadline, Arrival, UnusedBit, NoRoom, EntryCount, Entry, Cost}
+use Rattle.packets.specs.declared.judge.Verdict.{Verdict}
+use Rattle.packets.specs.declared.judge.Verdict.the-variants.{Passed, Refused}
+
+pub data Outcome : Type 0 where
+  -- the call gives these values
+  gives : List ℕ → Outcome
+  -- the call refuses, with this number and this place
+  refuses : ℕ → ℕ → Outcome
+
+infixr 20 _when_else_
+-- the first outcome where the test holds, and what follows where it does not
+unfoldable pub _when_else_ : Outcome → Bool → Outcome → Outcome
+_when_else_ refusal true rest = refusal
+_when_else_ refusal false rest = rest
+
+infixr 15 _then_
+-- the tests of the second come after those of the first: a refusal of the first stands
+unfoldable pub _then_ : Outcome → Outcome → Outcome
+_then_ (gives values) next = next
+_then_ (refuses number place) next = refuses number place
+
+-- the number and the place of a refusal
+abbrev pub refusalOf : Refusal → Outcome
+refusalOf Short = refuses 1 0
+refusalOf NoPackets = refuses 2 0
+refusalOf TooManyPackets = refuses 3 0
+refusalOf (Size i) = refuses 4 i
+refusalOf (Deadline i) = refuses 5 i
+refusalOf (Arrival i) = refuses 6 i
+refusalOf UnusedBit = refuses 7 0
+refusalOf NoRoom = refuses 8 0
+refusalOf EntryCount = refuses 9 0
+refusalOf (Entry i) = refuses 10 i
+refusalOf Cost = refuses 11 0
+
+-- a verdict that passes gives no values
+abbrev pub verdictOf : Verdict → Outcome
+verdictOf Passed = gives []
+verdictOf (Refused refusal) = refusalOf refusal
