@@ -1,0 +1,4 @@
+pub mod Windows
+pub mod Points
+pub mod Rounds
+pub mod Answer
