@@ -1,1 +1,13 @@
 pub mod Worked
+pub mod Sums
+pub mod Left
+pub mod Proper
+pub mod Hull
+pub mod Carry
+pub mod Facts
+pub mod Order
+pub mod Rule
+pub mod Ending
+pub mod EventPoints
+pub mod Accepting
+pub mod Rating

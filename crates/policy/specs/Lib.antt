@@ -1,4 +1,6 @@
 pub mod Windows
 pub mod Points
 pub mod Rounds
+pub mod Runs
+pub mod Carried
 pub mod Answer
