@@ -1,15 +1,15 @@
 -- Turns over the fields of a row and over the rows of a table: what is done so far, and what is still to do, make the whole. Assumes nothing.
 use Prim.Native.Nat.{ℕ, zero, suc, _+_, _-_, _*_, _<_, _≤_}
-use mathlib.Core.Path.{_≡_, refl, sym, ap, _∙_}
+use mathlib.Core.Path.{_≡_, refl, sym, ap, ap₂, _∙_}
 use mathlib.Core.List.{List, [], _∷_, _++_}
 use native.Mathlib.Omega.{arith}
 use native.Mathlib.Numerals.{add-one}
-use native.Mathlib.Nat.{add-zero, add-assoc}
-use lib.ListN.{length, getD, drop, set, length-append, length-drop, drop-of-length-le}
-use lib.Seq.{sets, drop-cons, drop-drop}
+use native.Mathlib.Nat.{add-zero, zero-add, add-assoc}
+use lib.ListN.{length, getD, take, drop, set, length-append, length-drop, drop-of-length-le, take-append-drop}
+use lib.Seq.{sets, drop-cons, drop-drop, drop-at, length-take-le}
 use Rattle.bits.specs.Field.{fieldAt, putField}
-use Rattle.bits.specs.Table.{total, rows, fieldsAt, putFields}
-use Rattle.bits.proofs.Tables.{total-append, fields-append, length-fields}
+use Rattle.bits.specs.Table.{total, rows, fieldsAt, putFields, unusedBits, fieldWidths, tableWidths, writeTable}
+use Rattle.bits.proofs.Tables.{total-append, length-rows, fields-append, length-fields}
 
 -- ---- the fields of a row
 
@@ -91,3 +91,62 @@ module _ (count row : ℕ) (widths : List ℕ) (left : row < count) where
       ap (putFields (putFields bytes p widths (drop from values)) (p + total widths) (rows (count - (row + 1)) widths)) (sym (drop-drop (length widths) from values))
       ∙ sym (put-append bytes p widths (rows (count - (row + 1)) widths) (drop from values) (omega (arith, length-drop from values)))
       ∙ ap (λ (w : List ℕ). putFields bytes p w (drop from values)) (sym (rows-next count row widths left))
+
+-- ---- a whole table
+
+-- values past the widths have no part
+pub put-extra : (bytes : List ℕ) (p : ℕ) (widths values extra : List ℕ) → length widths ≤ length values
+    → putFields bytes p widths (values ++ extra) ≡ putFields bytes p widths values
+unfolding putFields
+put-extra bytes p [] values extra h = refl
+put-extra bytes p (w ∷ widths) [] extra h = absurd (omega arith)
+put-extra bytes p (w ∷ widths) (v ∷ values) extra h = put-extra (putField bytes p w v) (p + w) widths values extra (omega arith)
+
+pub put-take : (bytes : List ℕ) (p : ℕ) (widths values : List ℕ) (n : ℕ) → length widths ≤ n → n ≤ length values
+    → putFields bytes p widths (take n values) ≡ putFields bytes p widths values
+put-take bytes p widths values n h room =
+    sym (put-extra bytes p widths (take n values) (drop n values) (rw length-take-le h)) ∙ ap (putFields bytes p widths) (take-append-drop n values)
+
+-- fields one after the other, with as many values as widths in the first part
+pub put-parts : (bytes : List ℕ) (p : ℕ) (a b va vb : List ℕ) → length a ≡ length va
+    → putFields bytes p (a ++ b) (va ++ vb) ≡ putFields (putFields bytes p a va) (p + total a) b vb
+put-parts bytes p a b va vb same =
+    put-append bytes p a b (va ++ vb) (omega (arith, length-append va vb))
+    ∙ ap (λ (s : List ℕ). putFields s (p + total a) b (drop (length a) (va ++ vb))) (put-extra bytes p a va vb (omega arith))
+    ∙ ap (putFields (putFields bytes p a va) (p + total a) b) (drop-at va vb (length a) (sym same))
+
+-- the head, then the rows, then zero in the unused bits: that is the table
+pub table-written : (bytes head widths vhead values : List ℕ) (count : ℕ) → length head ≡ length vhead → count * length widths ≤ length values
+    → let end = total head + total (rows count widths) in
+    putField (putFields (putFields bytes 0 head vhead) (total head) (rows count widths) values) end (unusedBits end) 0
+    ≡ writeTable bytes head widths count (vhead ++ take (count * length widths) values)
+unfolding writeTable tableWidths fieldWidths
+table-written bytes head widths vhead values count same room =
+    sym
+    (put-parts bytes 0 (head ++ rows count widths) _ (vhead ++ take (count * length widths) values) (0 ∷ []) long
+    ∙ ap₂ (λ (s : List ℕ) (n : ℕ). putFields s (0 + n) (unusedBits n ∷ []) (0 ∷ [])) inner (total-append head (rows count widths))
+    ∙ (unfold putFields in (rw zero-add)))
+  where
+    long : length (head ++ rows count widths) ≡ length (vhead ++ take (count * length widths) values)
+    long =
+        length-append head (rows count widths)
+        ∙ omega (arith, length-rows count widths, same, length-take-le (count * length widths) values room)
+        ∙ sym (length-append vhead (take (count * length widths) values))
+
+    inner : putFields bytes 0 (head ++ rows count widths) (vhead ++ take (count * length widths) values)
+        ≡ putFields (putFields bytes 0 head vhead) (total head) (rows count widths) values
+    inner =
+        put-parts bytes 0 head (rows count widths) vhead (take (count * length widths) values) same
+        ∙ rw zero-add (put-take (putFields bytes 0 head vhead) (total head) (rows count widths) values (count * length widths) (omega (arith, length-rows count widths)) room)
+
+-- the same, as the writer goes: each step says where it ends and what it leaves
+pub table-steps : (bytes head widths vhead values : List ℕ) (count : ℕ) → length head ≡ length vhead → count * length widths ≤ length values
+    → (one two three : List ℕ) (end₁ end₂ unused : ℕ)
+    → end₁ ≡ 0 + total head → one ≡ putFields bytes 0 head vhead
+    → end₂ ≡ end₁ + total (rows count widths) → two ≡ putFields one end₁ (rows count widths) values
+    → unused ≡ unusedBits end₂ → three ≡ putField two end₂ unused 0
+    → three ≡ writeTable bytes head widths count (vhead ++ take (count * length widths) values)
+table-steps bytes head widths vhead values count same room one two three end₁ end₂ unused a b d e f g =
+    let first : end₁ ≡ total head = omega arith in
+    let second : end₂ ≡ total head + total (rows count widths) = omega arith in
+    g ∙ rw (f, e, b, second, first) (table-written bytes head widths vhead values count same room)

@@ -130,6 +130,14 @@ table-total head row n =
     let w = total (fieldWidths head row n) in
     total-append (fieldWidths head row n) ((8 - w % 8) % 8 ∷ []) ∙ (unfold total in (omega arith))
 
+-- head and rows, and the unused bits behind them
+pub table-parts : (head row : List ℕ) (n : ℕ)
+    → (total (fieldWidths head row n) ≡ total head + total (rows n row)) × (total head + total (rows n row) + unusedBits (total head + total (rows n row)) ≡ 8 * tableBytes head row n)
+unfolding tableBytes fieldWidths
+table-parts head row n =
+    let e = total-append head (rows n row) in
+    (e, rw e (omega arith))
+
 -- a list with one more at its end is known by its front and by that one
 snoc-same : (a b : List ℕ) (x y : ℕ) → length a ≡ length b → a ++ x ∷ [] ≡ b ++ y ∷ [] → (a ≡ b) × (x ≡ y)
 snoc-same a b x y long same = (

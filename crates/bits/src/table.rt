@@ -1,10 +1,11 @@
 // Rows of fields that follow one another, read into numbers and written from numbers.
 // What a table is is said by specs/Table.antt. Positions and widths are in bits.
 ghost use mathlib.Core.Path.{_≡_};
-ghost use Prim.Native.Nat.{ℕ, _+_, _*_, _^_, _<_, _≤_};
-ghost use lib.ListN.{length, getD, drop};
+ghost use Prim.Native.Nat.{_+_, _*_, _^_, _<_, _≤_};
+ghost use mathlib.Core.List.{_++_};
+ghost use lib.ListN.{length, take, drop};
 ghost use lib.Seq.{sets};
-ghost use Rattle.bits.specs.Table.{total, rows, fieldsAt, putFields, bytesFor, unusedBits, AtMost};
+ghost use Rattle.bits.specs.Table.{total, rows, fieldsAt, putFields, bytesFor, unusedBits, fieldWidths, tableBytes, writeTable, AtMost};
 use crate::field;
 
 // The bytes that so many bits take (bytes).
@@ -63,13 +64,46 @@ fn read_row(bytes: &[u8], at: usize, widths: &[usize], out: &mut [u64], to: usiz
     position
 }
 
-// Writes count rows of fields of these widths at bit position at from the front of values. Every other bit stays.
-pub fn write_rows(bytes: &mut [u8], at: usize, widths: &[usize], count: usize, values: &[u64])
+// Writes a table to the front of the bytes: the head, whose widths are in lead, then count rows, whose widths are in row, from the front of values,
+// then zero in the unused bits. The bytes behind it stay.
+pub fn write_table(
+    bytes: &mut [u8],
+    lead: &[usize],
+    head: &[u64],
+    row: &[usize],
+    count: usize,
+    values: &[u64],
+)
+    requires { ⌜ AtMost 64 (now lead) × AtMost 64 (now row) ⌝ }
+    requires { ⌜ tableBytes (now lead) (now row) count ≤ length (now bytes) ⌝ }
+    requires { ⌜ total (fieldWidths (now lead) (now row) count) < 2 ^ 32 ⌝ }
+    requires { ⌜ (length (now lead) ≡ length (now head)) × (count * length (now row) ≤ length (now values)) ⌝ }
+    ensures { λ _. ⌜
+        now (bytes .exit)
+        ≡ writeTable
+        (now (bytes .entry))
+        (now (lead .entry))
+        (now (row .entry))
+        count
+        (now (head .entry) ++ take (count * length (now (row .entry))) (now (values .entry)))
+        ⌝ }
+{
+    let head_end = write_row(bytes, 0, lead, head, 0);
+    let end = write_rows(bytes, head_end, row, count, values);
+    field::put(bytes, end, unused_bits(end), 0);
+}
+
+// Writes count rows of fields of these widths at bit position at from the front of values, and returns the position behind them. Every other bit
+// stays.
+fn write_rows(bytes: &mut [u8], at: usize, widths: &[usize], count: usize, values: &[u64]) -> usize
     requires { ⌜ AtMost 64 (now widths) ⌝ }
     requires { ⌜ at + total (rows count (now widths)) ≤ 8 * length (now bytes) ⌝ }
     requires { ⌜ at + total (rows count (now widths)) < 2 ^ 64 ⌝ }
     requires { ⌜ count * length (now widths) ≤ length (now values) ⌝ }
-    ensures { λ _. ⌜ now (bytes .exit) ≡ putFields (now (bytes .entry)) at (rows count (now (widths .entry))) (now (values .entry)) ⌝ }
+    ensures { λ r. ⌜
+        (r ≡ at + total (rows count (now (widths .entry))))
+        × (now (bytes .exit) ≡ putFields (now (bytes .entry)) at (rows count (now (widths .entry))) (now (values .entry)))
+        ⌝ }
 {
     let mut row = 0;
     let mut position = at;
@@ -79,6 +113,7 @@ pub fn write_rows(bytes: &mut [u8], at: usize, widths: &[usize], count: usize, v
         from += widths.len();
         row += 1;
     }
+    position
 }
 
 // Writes one row at bit position at from values from index from on, and returns the position behind it.

@@ -71,12 +71,13 @@ same-length : tie.Need-same-length Inv-loop μ-loop
 same-length c = search needs
 
 returns : tie.Need-returns Inv-loop μ-loop
-unfolding putFields
+unfolding putFields total
 returns c =
     let l = c .before .loop in
     let a = c .before .before .before .before .before .args in
     let none = rows-last (a .count) (l .row) (a .widths .now) (c .loop-test .left) in
-    rw none at (l .inv .4)
+    let rest : total (rows (a .count - l .row) (a .widths .now)) ≡ 0 = rw none in
+    (omega arith, rw none at (l .inv .4))
 
 pub write-rows-spec : {M : Type 1} → statement M
 write-rows-spec =
