@@ -11,3 +11,4 @@ pub mod Ending
 pub mod EventPoints
 pub mod Accepting
 pub mod Rating
+pub mod Sorting

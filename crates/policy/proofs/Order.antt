@@ -9,6 +9,7 @@ use native.Mathlib.Decide.{decLe}
 use native.Mathlib.Nat.{mul-le-mul-right, eq-of-mul-eq-mul-right, lt-of-mul-lt-mul-right}
 use lib.Dec.{eqb, ltb}
 use borrow.Author.Tests.{ltb-true, ltb-false, eqb-true, eqb-false, lt-ltb, le-ltb, eq-eqb, ne-eqb}
+use Rattle.policy.specs.Rounds.{ahead}
 use Rattle.policy.proofs.Left.{both, both-true, not-both-ways}
 
 -- an interval with its load and length
@@ -32,9 +33,7 @@ Behind x y =
 
 -- the rule as a test
 abbrev pub before : Figures → Figures → Bool
-before x y =
-    ltb (y .load * x .len) (x .load * y .len) ||
-    (eqb (y .load * x .len) (x .load * y .len) && (ltb (x .start) (y .start) || (eqb (x .start) (y .start) && ltb (y .end) (x .end))))
+before x y = ahead (x .load) (x .len) (x .start) (x .end) (y .load) (y .len) (y .start) (y .end)
 
 either : (a b : Bool) → (a || b) ≡ true → (a ≡ true) ⊎ (b ≡ true)
 either true b h = inl refl

@@ -4,3 +4,4 @@ pub mod Rounds
 pub mod Runs
 pub mod Carried
 pub mod Answer
+pub mod Steps

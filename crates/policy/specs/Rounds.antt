@@ -31,12 +31,17 @@ load day done s e = left (day .packets) (done .packet) s e
 unfoldable pub len : Day → Progress → ℕ → ℕ → ℕ
 len day done s e = left (day .epochs) (done .epoch) s e
 
--- [s, e) comes before [s', e'): the denser first, compared exactly; between equals the earlier start, then the later end
+-- load over length from start to end comes before load' over length' from start' to end': the denser first, compared exactly; between equals the
+-- earlier start, then the later end
+abbrev pub ahead : ℕ → ℕ → ℕ → ℕ → ℕ → ℕ → ℕ → ℕ → Bool
+ahead load length start end load' length' start' end' =
+    ltb (load' * length) (load * length') ||
+    (eqb (load' * length) (load * length') && (ltb start start' || (eqb start start' && ltb end' end)))
+
+-- [s, e) comes before [s', e')
 unfoldable pub beats : Day → Progress → ℕ → ℕ → ℕ → ℕ → Bool
 beats day done s e s' e' =
-    let here = load day done s e * len day done s' e' in
-    let there = load day done s' e' * len day done s e in
-    ltb there here || (eqb there here && (ltb s s' || (eqb s s' && ltb e' e)))
+    ahead (load day done s e) (len day done s e) s e (load day done s' e') (len day done s' e') s' e'
 
 -- an interval, or none
 pub data Interval : Type 0 where
