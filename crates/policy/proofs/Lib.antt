@@ -12,3 +12,4 @@ pub mod EventPoints
 pub mod Accepting
 pub mod Rating
 pub mod Sorting
+pub mod Filling

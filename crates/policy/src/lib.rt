@@ -2,6 +2,8 @@
 // What is promised is said by specs/Answer.antt, over the rounds of specs/Rounds.antt.
 pub mod packet;
 pub mod points;
+pub mod spans;
+
 use packets::refusal::Refusal;
 
 // What the call comes to.
