@@ -43,3 +43,18 @@ halfway-more F l₀ l i v h f e =
 pub gift : (rate s e from till : ℕ) {r x x₀ d d₀ : ℕ} {gets : Bool} → r ≡ chosen gets rate x → gets ≡ fresh d s e from till → d ≡ d₀ → x ≡ x₀
     → r ≡ chosen (fresh d₀ s e from till) rate x₀
 gift rate s e from till p q u v = cc
+
+-- the first i numbers each meet a condition
+pub record Meeting (P : ℕ → ℕ → Type 0) (l : List ℕ) (i : ℕ) : Type 0 where
+  pub room : length l ≡ 128
+  pub below : (k : ℕ) → k < i → P k (getD l k 0)
+
+pub meeting-none : (P : ℕ → ℕ → Type 0) (l : List ℕ) → length l ≡ 128 → Meeting P l 0
+meeting-none P l h = record { room = h; below = λ k p. absurd (omega arith) }
+
+pub meeting-more : (P : ℕ → ℕ → Type 0) (l : List ℕ) (i v : ℕ) → i < 128 → Meeting P l i → P i v → Meeting P (set l i v) (i + 1)
+meeting-more P l i v h f e = record { room = length-set l i v ∙ f .room; below = λ k p. go k p (ℕ-discrete k i) }
+  where
+    go : (k : ℕ) → k < i + 1 → Dec (k ≡ i) → P k (getD (set l i v) k 0)
+    go k p (yes q) = rw (q, getD-set-same l i v 0 (omega (arith, f .room))) e
+    go k p (no q) = rw (getD-set-other l i k v 0 q) (f .below k (omega (arith, q)))

@@ -13,3 +13,4 @@ pub mod Accepting
 pub mod Rating
 pub mod Sorting
 pub mod Filling
+pub mod Sweeping

@@ -170,3 +170,13 @@ behind-both x y (inr (p, inr (a, c))) (inr (q, inr (b, f))) = (a, omega arith)
 pub behind-density : (x y : Figures) → Behind x y → x .load * y .len ≤ y .load * x .len
 behind-density x y (inl p) = omega arith
 behind-density x y (inr (p, t)) = omega arith
+
+-- equally dense with one start: the ends decide
+pub tied : (x y : Figures) → y .load * x .len ≡ x .load * y .len → x .start ≡ y .start → ltb (y .end) (x .end) ≡ before x y
+tied x y p q =
+    rw (
+      le-ltb (y .load * x .len) (x .load * y .len) (omega (arith, p)),
+      eq-eqb (y .load * x .len) (x .load * y .len) p,
+      le-ltb (x .start) (y .start) (omega (arith, q)),
+      eq-eqb (x .start) (y .start) q,
+    ) refl
