@@ -14,3 +14,4 @@ pub mod Rating
 pub mod Sorting
 pub mod Filling
 pub mod Sweeping
+pub mod Leading
