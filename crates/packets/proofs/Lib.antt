@@ -1,2 +1,5 @@
 pub mod Records
 pub mod Lists
+pub mod Answers
+pub mod Trips
+pub mod Cases

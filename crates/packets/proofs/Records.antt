@@ -149,7 +149,7 @@ tests-pass (suc n) i records values h =
     passed-then _ (sym (one-pass _ _ _ _ (a .0) (a .1))) ∙ tests-pass n (suc i) records values (a .2)
 
 -- where the tests of n records from record i on pass, each of these records is sound
-records-sound : (n i : ℕ) (records : List ℕ) → recordTests n i records ≡ gives []
+pub records-sound : (n i : ℕ) (records : List ℕ) → recordTests n i records ≡ gives []
     → (k : ℕ) → i ≤ k → k < i + n → Sound (sizeOf records k) (arrivalOf records k) (deadlineOf records k)
 unfolding recordTests
 records-sound zero i records h k low high = absurd (omega arith)

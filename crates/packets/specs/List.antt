@@ -1,13 +1,16 @@
 -- The list on the wire (document 01, "Bits on the wire" and "Refusal numbers and their order"): what reading and writing one come to, and what
 -- every lent buffer then holds. A list is a table: a count, then a record for each packet. Widths are in bits. Assumes nothing.
 use Prim.Native.Nat.{ℕ, _*_}
+use mathlib.Core.Path.{_≡_}
 use mathlib.Core.List.{List, [], _∷_, _++_}
 use lib.ListN.{length, take, drop}
 use lib.Dec.{eqb, ltb}
 use Rattle.bits.specs.Field.{fieldAt}
 use Rattle.bits.specs.Table.{rows, fieldsAt, tableBytes, unusedAt, writeTable}
 use Rattle.packets.specs.Limits.{mostPackets}
-use Rattle.packets.specs.Outcome.{Outcome, gives, refuses, _when_else_, _then_, _given_else_}
+use Rattle.packets.specs.Outcome.{Outcome, gives, refuses, _when_else_, _then_, _given_else_, listAnswerOf, writtenAnswerOf}
+use Rattle.packets.specs.declared.list.ListAnswer.{ListAnswer}
+use Rattle.packets.specs.declared.list.WrittenAnswer.{WrittenAnswer}
 use Rattle.packets.specs.Records.{recordNumbers, recordTests, memoryTests}
 
 -- the width of the count (bits)
@@ -78,3 +81,18 @@ unfoldable pub bytesAfter : ℕ → List ℕ → List ℕ → List ℕ
 bytesAfter count records lent =
     writeTable lent (countWidth ∷ []) recordWidths count (count ∷ take (recordNumbers * count) records)
     given writeOutcome count records (length lent) else lent
+
+-- ---- the promises
+
+-- what judging a list promises: the answer
+abbrev pub ListJudged : List ℕ → ℕ → ListAnswer → Type 0
+ListJudged bytes room answer = listAnswerOf answer ≡ readOutcome bytes room
+
+-- what reading one promises: the part handed back, and the lent records at exit
+abbrev pub ListRead : List ℕ → List ℕ → List ℕ → List ℕ → Type 0
+ListRead bytes lent rest after = (rest ≡ restAfter bytes (length lent)) × (after ≡ recordsAfter bytes lent)
+
+-- what writing one promises: the answer, and the lent bytes at exit
+abbrev pub ListWritten : ℕ → List ℕ → List ℕ → WrittenAnswer → List ℕ → Type 0
+ListWritten count records lent answer after =
+    (writtenAnswerOf answer ≡ writeOutcome count records (length lent)) × (after ≡ bytesAfter count records lent)

@@ -2,22 +2,19 @@
 // What each call comes to, and what it leaves in every lent buffer, is said by specs/List.antt.
 ghost use mathlib.Core.Path.{_≡_};
 ghost use Prim.Native.Nat.{_+_, _*_, _<_, _≤_};
-ghost use lib.ListN.{length, take};
-ghost use mathlib.Core.List.{_∷_, []};
-ghost use Rattle.bits.specs.Table.{rows, fieldsAt, writeTable};
-ghost use Rattle.packets.specs.Outcome.{verdictOf, listAnswerOf, writtenAnswerOf};
-ghost use Rattle.packets.specs.Records.{recordNumbers, recordTests};
+ghost use lib.ListN.{length};
+ghost use Rattle.bits.specs.Table.{rows, fieldsAt};
+ghost use Rattle.packets.specs.Outcome.{verdictOf};
+ghost use Rattle.packets.specs.Records.{recordTests};
 ghost use Rattle.packets.specs.List.{
   countWidth,
   recordWidths,
   listBytes,
   countOn,
   wireTests,
-  readOutcome,
-  recordsAfter,
-  restAfter,
-  writeOutcome,
-  bytesAfter,
+  ListJudged,
+  ListRead,
+  ListWritten,
 };
 use crate::judge;
 use crate::judge::MOST_PACKETS;
@@ -27,10 +24,11 @@ use crate::refusal::Refusal;
 use bits::field;
 use bits::table;
 
-// The width of the count (bits).
+// The width of the count (bits), by itself and as a table's head.
+const COUNT_WIDTH: usize = 7;
+
 const COUNT_WIDTHS: [usize; 1] = [7];
 
-const COUNT_WIDTH: usize = 7;
 // The widths of a record's size, arrival and deadline (bits), and what they add up to (bits).
 const RECORD_WIDTHS: [usize; 3] = [16, 17, 17];
 
@@ -50,7 +48,7 @@ pub enum WrittenAnswer {
 
 // What reading a list from these bytes into room for so many numbers comes to. It changes nothing.
 pub fn judge_list(bytes: &[u8], room: usize) -> ListAnswer
-    ensures { λ r. ⌜ listAnswerOf r ≡ readOutcome (now (bytes .entry)) room ⌝ }
+    ensures { λ r. ⌜ ListJudged (now (bytes .entry)) room r ⌝ }
 {
     let wire = judge_wire(bytes);
     if let Verdict::Refused(refusal) = wire {
@@ -73,8 +71,7 @@ pub fn judge_list(bytes: &[u8], room: usize) -> ListAnswer
 // Reads the list at the front of the bytes into the lent records, three numbers a packet, and hands back the bytes behind it. A refusal hands back the
 // whole input and changes nothing that was lent.
 pub fn read_list<'a>(bytes: &'a [u8], records: &mut [u64]) -> &'a [u8]
-    ensures { λ r. ⌜ now r ≡ restAfter (now (bytes .entry)) (length (now (records .entry))) ⌝ }
-    ensures { λ _. ⌜ now (records .exit) ≡ recordsAfter (now (bytes .entry)) (now (records .entry)) ⌝ }
+    ensures { λ r. ⌜ ListRead (now (bytes .entry)) (now (records .entry)) (now r) (now (records .exit)) ⌝ }
 {
     let answer = judge_list(bytes, records.len());
     match answer {
@@ -88,8 +85,7 @@ pub fn read_list<'a>(bytes: &'a [u8], records: &mut [u64]) -> &'a [u8]
 
 // Writes packets in memory as a list to the front of the lent bytes. The bytes behind it stay, and a refusal changes nothing.
 pub fn write_list(count: usize, records: &[u64], bytes: &mut [u8]) -> WrittenAnswer
-    ensures { λ r. ⌜ writtenAnswerOf r ≡ writeOutcome count (now (records .entry)) (length (now (bytes .entry))) ⌝ }
-    ensures { λ _. ⌜ now (bytes .exit) ≡ bytesAfter count (now (records .entry)) (now (bytes .entry)) ⌝ }
+    ensures { λ r. ⌜ ListWritten count (now (records .entry)) (now (bytes .entry)) r (now (bytes .exit)) ⌝ }
 {
     let verdict = judge::judge_packets(count, records);
     if let Verdict::Refused(refusal) = verdict {
