@@ -18,3 +18,4 @@ pub mod Leading
 pub mod Turning
 pub mod Rows
 pub mod Answering
+pub mod Wrong
