@@ -10,17 +10,14 @@ use native.Mathlib.Nat.{le-trans}
 use lib.ListN.{length, getD}
 use Rattle.packets.specs.Limits.{airBytes, largestSize, lastSecond, mostPackets}
 use Rattle.packets.specs.Records.{sizeOf, arrivalOf, deadlineOf, Sound, Accepted}
+use Rattle.policy.specs.Figures.{largestAir}
 use Rattle.policy.specs.Windows.{sum}
 use Rattle.policy.specs.Points.{pointsOf, packetsOf, epochsOf}
 use Rattle.policy.specs.Rounds.{dayOf}
-use Rattle.policy.proofs.Proper.{Proper, mostRate}
+use Rattle.policy.proofs.Proper.{Proper}
 use Rattle.policy.proofs.EventPoints.{Rising, Has, Event, points-rising, points-arrival, points-deadline, points-only, rising-at, rising-le}
 
 -- ## Bytes
-
--- the largest number of bytes that a packet puts on the air
-abbrev pub largestAir : ℕ
-largestAir = 65535
 
 pub air-some : (listed : ℕ) → 0 < listed → 0 < airBytes listed
 unfolding airBytes

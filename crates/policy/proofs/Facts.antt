@@ -17,7 +17,7 @@ use Rattle.policy.specs.Runs.{DataInterval, Candidate, Densest, Run, beg
 use Rattle.policy.specs.Carried.{carries, carried, carriedInAll, priceOf, priced, inUnits}
 use Rattle.policy.proofs.Sums.{sum-at, sum-le, sum-none}
 use Rattle.policy.proofs.Left.{both, both-true, not-both-ways, inside-true, inside-is, left-some, onlyIf-le}
-use Rattle.policy.proofs.Proper.{Proper, RateInRange, mostRate}
+use Rattle.policy.proofs.Proper.{Proper, RateInRange}
 use Rattle.policy.proofs.Hull.{Bounded, lowest-bounds, hull}
 use Rattle.policy.proofs.Carry.{assign-new, assign-old, assign-out, none-unassigned, carries-same, carried-after, carried-in-all-after, priced-after, remaining, remaining-fewer, remaining-most}
 
