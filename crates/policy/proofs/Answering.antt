@@ -1,17 +1,16 @@
 -- The outcome of the call, case by case, and that its promise admits one answer only: the outcome gives the answer, and the records and the lent room
 -- give what is in the lent room at the end. Assumes nothing.
-use Prim.Native.Nat.{ℕ, zero, suc, pred, _+_, _-_, _*_, _<_, _≤_}
-use mathlib.Core.Path.{_≡_, refl, sym, ap, ap₂, subst, _∙_}
-use mathlib.Core.Bool.{Bool, true, false}
-use mathlib.Core.List.{List, [], _∷_, _++_}
+use Prim.Native.Nat.{ℕ, pred, _-_, _*_, _<_, _≤_}
+use mathlib.Core.Path.{_≡_, refl, sym, ap, ap₂, _∙_}
+use mathlib.Core.List.{List, [], _∷_}
 use native.Mathlib.Omega.{arith}
 use native.Mathlib.Numerals.{sub-one}
-use lib.ListN.{length, getD, take}
-use lib.Dec.{eqb, ltb}
+use lib.ListN.{length}
+use lib.Dec.{ltb}
 use borrow.Author.Tests.{lt-ltb, le-ltb}
 use Rattle.packets.specs.declared.refusal.Refusal.{Refusal}
 use Rattle.packets.specs.declared.refusal.Refusal.the-variants.{NoRoom}
-use Rattle.packets.specs.Outcome.{Outcome, gives, refuses, _when_else_, refusalOf}
+use Rattle.packets.specs.Outcome.{gives, refuses, _when_else_, refusalOf}
 use Rattle.packets.specs.Records.{memoryTests, Accepted}
 use Rattle.packets.proofs.Records.{accepted-memory}
 use Rattle.packets.proofs.Outcomes.{refused-then, passed-then, refused-leaves, given-leaves}
@@ -19,12 +18,12 @@ use Rattle.packets.proofs.Answers.{refusal-one, refusal-gives}
 use Rattle.policy.specs.declared.RatesAnswer.{RatesAnswer}
 use Rattle.policy.specs.declared.RatesAnswer.the-variants.{Rated, Refused}
 use Rattle.policy.specs.Points.{pointsOf, epochsOf}
-use Rattle.policy.specs.Rounds.{Progress, outcomeOf}
+use Rattle.policy.specs.Rounds.{outcomeOf}
 use Rattle.policy.specs.Answer.{ratesAnswerOf, epochNumbers, epochRows, epochCount, ratesOf, ratesOutcome, overwritten, ratesAfter, EpochsRated}
 use Rattle.policy.specs.Steps as Steps
-use Rattle.policy.specs.Steps.{givenIn, givenOf}
-use Rattle.policy.proofs.Rows.{rows-length, rows-same}
-use Rattle.policy.proofs.Turning.{point-at, points-some}
+use Rattle.policy.specs.Steps.{givenIn}
+use Rattle.policy.proofs.Rows.{rows-same}
+use Rattle.policy.proofs.Turning.{point-at}
 
 -- ## The cases
 

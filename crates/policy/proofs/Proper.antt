@@ -1,6 +1,6 @@
 -- What the rounds ask of a day: windows and weights above zero, epochs that no arrival and no deadline divides, an epoch in every packet's
 -- window, and totals within the figures. Every accepted list has such a day. Assumes nothing.
-use Prim.Native.Nat.{ℕ, _*_, _<_, _≤_}
+use Prim.Native.Nat.{ℕ, _<_, _≤_}
 use mathlib.Core.Logic.{_⊎_}
 use Rattle.packets.specs.Limits.{lastSecond}
 use Rattle.fractions.specs.Fraction.{Lowest}

@@ -1,16 +1,16 @@
 -- The worked lists A, C, D, E and F of document 01, and two more, go through the definitions: epochs and rounds, then start, N and D of each epoch.
 -- Assumes nothing.
-use Prim.Native.Nat.{ℕ, zero, suc, pred}
+use Prim.Native.Nat.{ℕ}
 use mathlib.Core.Path.{_≡_, refl}
 use mathlib.Core.List.{List, [], _∷_}
 use Rattle.packets.specs.Limits.{airBytes}
-use Rattle.packets.specs.Outcome.{Outcome, gives, refuses, _when_else_, _then_, inOrder}
+use Rattle.packets.specs.Outcome.{Outcome, gives, _when_else_, _then_, inOrder}
 use Rattle.packets.specs.Records.{sizeOf, arrivalOf, deadlineOf, recordTest, recordAt, recordTests, memoryTests}
 use Rattle.fractions.specs.Fraction.{euclid, gcd, lowestN, lowestD}
 use Rattle.policy.specs.Windows.{assign, choose, inside, left, onlyIf, sum, unassigned}
 use Rattle.policy.specs.Points.{epochsOf, packetsOf, pointsOf, withPoint}
 use Rattle.policy.specs.Rounds.{after, atFirst, beats, bestFrom, bestOf, better, dayOf, giveRate, leads, len, load, outcomeOf, pick, round, roundOf, taken}
-use Rattle.policy.specs.Answer.{epochCount, epochRows, ratesAfter, ratesOf, ratesOutcome, shownD, shownN}
+use Rattle.policy.specs.Answer.{epochCount, epochRows, ratesOf, ratesOutcome, shownD, shownN}
 
 -- a list, what its call gives with room for `room` numbers, and the rows that are written
 pub record Case : Type 0 where

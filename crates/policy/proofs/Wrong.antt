@@ -1,11 +1,11 @@
 -- Answers of wrong programs that the promise does not admit, each refuted on one worked list. Assumes nothing.
-use Prim.Native.Nat.{ℕ, _≤_}
+use Prim.Native.Nat.{ℕ}
 use mathlib.Core.Path.{_≡_, refl, sym, ap, _∙_}
 use mathlib.Core.List.{List, [], _∷_, _++_}
 use native.Mathlib.Omega.{arith}
 use lib.ListN.{length, getD, drop}
 use Rattle.packets.specs.declared.refusal.Refusal.{Refusal}
-use Rattle.packets.specs.Outcome.{Outcome, gives, _given_else_}
+use Rattle.packets.specs.Outcome.{gives}
 use Rattle.packets.proofs.Answers.{refusal-gives}
 use Rattle.packets.proofs.Outcomes.{given-leaves}
 use Rattle.policy.specs.declared.RatesAnswer.{RatesAnswer}

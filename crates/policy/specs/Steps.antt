@@ -1,8 +1,8 @@
 -- What the functions under the public operation give, as definitions that follow the code. The promise of the public operation does not rest on them.
 -- Seconds and bytes. Assumes nothing.
-use Prim.Native.Nat.{ℕ, zero, suc, pred, _+_, _-_, _*_, _^_, _<_, _≤_}
+use Prim.Native.Nat.{ℕ, zero, suc, pred, _+_, _-_, _^_, _<_, _≤_}
 use mathlib.Core.Path.{_≡_}
-use mathlib.Core.Bool.{Bool, true, false, _&&_, _||_}
+use mathlib.Core.Bool.{Bool, _&&_, _||_}
 use mathlib.Core.List.{List}
 use lib.ListN.{getD, length, take, replicate}
 use lib.Dec.{eqb, leb, ltb}

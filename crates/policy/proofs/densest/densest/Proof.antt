@@ -1,7 +1,7 @@
 -- `policy::densest::densest` meets its contract. The invariant: the leader is that of the first i arrivals, and its cross products fit. Assumes nothing.
 use lib.ListN.{getD}
 use native.Mathlib.Omega.{arith}
-use Prim.Native.Nat.{ℕ, _-_, _≤_}
+use Prim.Native.Nat.{_-_, _≤_}
 use mathlib.Core.Path.{_≡_, refl, ap, _∙_}
 use Rattle.policy.specs.Steps.{led, Small}
 use Rattle.policy.proofs.Sweeping.{led-next, tally-most}

@@ -5,7 +5,7 @@ use lib.ListN.{getD}
 use Rattle.policy.specs.Steps.{swept}
 use Rattle.policy.proofs.Sweeping.{grown-most}
 use native.Mathlib.Omega.{arith}
-use Prim.Native.Nat.{ℕ, _-_, _≤_, _<_}
+use Prim.Native.Nat.{_-_, _≤_, _<_}
 use mathlib.Core.Path.{refl}
 use Rattle.policy.specs.Steps.{sweptOver}
 use Rattle.policy.proofs.Sweeping.{SweptSoFar, swept-first, swept-next}

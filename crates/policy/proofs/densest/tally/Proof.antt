@@ -3,7 +3,7 @@ use Prim.Native.Nat.{_<_}
 use lib.ListN.{getD, getD-replicate}
 use Rattle.policy.proofs.Sweeping.{due-most, tallied-last}
 use native.Mathlib.Omega.{arith}
-use Prim.Native.Nat.{ℕ, _-_, _≤_}
+use Prim.Native.Nat.{_-_, _≤_}
 use mathlib.Core.Path.{refl}
 use Rattle.policy.proofs.Sweeping.{TalliedSoFar, tallied-first, tallied-next}
 use borrow.Author.Needs.{needs}

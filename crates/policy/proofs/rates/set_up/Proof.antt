@@ -5,7 +5,7 @@ use lib.ListN.{getD, replicate, getD-replicate}
 use native.Mathlib.Nat.{le-of-lt}
 use Rattle.policy.specs.Points.{packetsOf}
 use Rattle.policy.proofs.Turning.{epochs-set}
-use Prim.Native.Nat.{ℕ, _-_, _≤_, _<_}
+use Prim.Native.Nat.{ℕ, _≤_, _<_}
 use native.Mathlib.Omega.{arith}
 use Rattle.policy.proofs.Turning.{points-some, points-most, point-rises, place-found}
 use borrow.Author.Needs.{needs}
