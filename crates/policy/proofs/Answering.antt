@@ -19,7 +19,9 @@ use Rattle.policy.specs.declared.RatesAnswer.{RatesAnswer}
 use Rattle.policy.specs.declared.RatesAnswer.the-variants.{Rated, Refused}
 use Rattle.policy.specs.Points.{pointsOf, epochsOf}
 use Rattle.policy.specs.Rounds.{outcomeOf}
-use Rattle.policy.specs.Answer.{ratesAnswerOf, epochNumbers, epochRows, epochCount, ratesOf, ratesOutcome, overwritten, ratesAfter, EpochsRated}
+use Rattle.policy.specs.declared.EpochRate.{EpochRate}
+use Rattle.policy.specs.declared.EpochRate.the-variants.{Silent, Carries}
+use Rattle.policy.specs.Answer.{epochRateOf, ratesAnswerOf, epochNumbers, epochRows, epochCount, ratesOf, ratesOutcome, overwritten, ratesAfter, EpochsRated}
 use Rattle.policy.specs.Steps as Steps
 use Rattle.policy.specs.Steps.{givenIn}
 use Rattle.policy.proofs.Rows.{rows-same}
@@ -93,3 +95,13 @@ pub epochs-rated-one : (count : ℕ) (records lent : List ℕ) (a b : RatesAnswe
     → EpochsRated count records lent a x → EpochsRated count records lent b y → (a ≡ b) × (x ≡ y)
 epochs-rated-one count records lent a b x y p q =
     (rates-answer-one a b (p .answer-is ∙ sym (q .answer-is)), p .exit-is ∙ sym (q .exit-is))
+
+-- an epoch's rate is known by what was given
+pub epoch-rate-one : (a b : EpochRate) → epochRateOf a ≡ epochRateOf b → a ≡ b
+epoch-rate-one Silent Silent e = refl
+epoch-rate-one Silent (Carries y) e = let z : _≡_ {A = ℕ} 0 1 = cc in absurd (omega arith)
+epoch-rate-one (Carries x) Silent e = let z : _≡_ {A = ℕ} 0 1 = cc in absurd (omega arith)
+epoch-rate-one (Carries x) (Carries y) e =
+    let f : x .n ≡ y .n = cc in
+    let g : x .d ≡ y .d = cc in
+    λ i. Carries (record { n = f i; d = g i })
