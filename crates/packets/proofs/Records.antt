@@ -1,17 +1,18 @@
 -- Laws of the tests of packets in memory: one more record, and what passing every test means. Assumes nothing.
 use Prim.Native.Nat.{ℕ, zero, suc, _+_, _-_, _*_, _<_, _≤_}
 use mathlib.Core.Path.{_≡_, refl, sym, ap, _∙_}
-use mathlib.Core.List.{List, []}
+use mathlib.Core.List.{List, [], _++_}
 use mathlib.Core.Bool.{Bool, true, false}
 use native.Mathlib.Omega.{arith}
 use native.Mathlib.Nat.{sub-zero}
 use native.Mathlib.Numerals.{add-one}
 use native.Mathlib.Decide.{decLe}
-use lib.ListN.{length, getD}
+use lib.ListN.{length, getD, List·getD-append}
+use lib.Seq.{sets, sets-eq}
 use lib.Dec.{eqb, ltb, leb}
 use borrow.Author.Tests.{eqb-false, ltb-false, leb-false, ne-eqb, le-ltb, lt-leb}
 use Rattle.packets.specs.Limits.{mostPackets, largestSize, lastSecond}
-use Rattle.packets.specs.Outcome.{Outcome, gives, refuses, _when_else_, _then_, refusalOf, verdictOf}
+use Rattle.packets.specs.Outcome.{Outcome, gives, refuses, _when_else_, _then_, _given_else_, refusalOf, verdictOf}
 use Rattle.packets.specs.declared.refusal.Refusal.{Refusal}
 use Rattle.packets.specs.declared.refusal.Refusal.the-variants.{Short, NoPackets, TooManyPackets, Size, Deadline, Arrival, UnusedBit, NoRoom, EntryCount, Entry, Cost}
 use Rattle.packets.specs.declared.judge.Verdict.{Verdict}
@@ -56,20 +57,33 @@ sound-record i size arrival deadline s =
     let z : size ≡ 0 → ⊥ = λ (e : size ≡ 0). omega arith in
     simp (ne-eqb _ _ z, le-ltb _ _ (s .small), le-ltb _ _ (s .today), lt-leb _ _ (s .early))
 
+-- a refusal has a number and a place
+pub refusal-refuses : (refusal : Refusal) → (number : ℕ) × (place : ℕ) × (refusalOf refusal ≡ refuses number place)
+refusal-refuses Short = (1, 0, refl)
+refusal-refuses NoPackets = (2, 0, refl)
+refusal-refuses TooManyPackets = (3, 0, refl)
+refusal-refuses (Size i) = (4, i, refl)
+refusal-refuses (Deadline i) = (5, i, refl)
+refusal-refuses (Arrival i) = (6, i, refl)
+refusal-refuses UnusedBit = (7, 0, refl)
+refusal-refuses NoRoom = (8, 0, refl)
+refusal-refuses EntryCount = (9, 0, refl)
+refusal-refuses (Entry i) = (10, i, refl)
+refusal-refuses Cost = (11, 0, refl)
+
 -- a refusal stands, whatever is tested after it
 pub refusal-stands : (refusal : Refusal) (next : Outcome) → (refusalOf refusal then next) ≡ refusalOf refusal
 unfolding _then_
-refusal-stands Short next = refl
-refusal-stands NoPackets next = refl
-refusal-stands TooManyPackets next = refl
-refusal-stands (Size i) next = refl
-refusal-stands (Deadline i) next = refl
-refusal-stands (Arrival i) next = refl
-refusal-stands UnusedBit next = refl
-refusal-stands NoRoom next = refl
-refusal-stands EntryCount next = refl
-refusal-stands (Entry i) next = refl
-refusal-stands Cost next = refl
+refusal-stands refusal next = rw (refusal-refuses refusal .2)
+
+-- what a call leaves where its tests refuse, and where they give values
+pub refused-leaves : {A : Type 0} {tests : Outcome} (refusal : Refusal) (accepted refused : A) → refusalOf refusal ≡ tests → (accepted given tests else refused) ≡ refused
+unfolding _given_else_
+refused-leaves refusal accepted refused e = rw (← e, refusal-refuses refusal .2)
+
+pub given-leaves : {A : Type 0} {tests : Outcome} {values : List ℕ} (accepted refused : A) → gives values ≡ tests → (accepted given tests else refused) ≡ accepted
+unfolding _given_else_
+given-leaves accepted refused e = rw (← e)
 
 -- tests that pass leave what comes after them
 pub passed-then : {tests : Outcome} (next : Outcome) → gives [] ≡ tests → (tests then next) ≡ next
@@ -109,12 +123,12 @@ module _ (count i at : ℕ) (records : List ℕ) (within : i < count) (place : a
       → refusalOf refusal ≡ recordTests count 0 records
   turn-refuses {verdict} {refusal} v e = sym (refused-then refusal _ (sym (ap verdictOf v) ∙ e)) ∙ front
 
--- tests one after the other give no values only where each does
-pub then-passes : (first next : Outcome) → ((values : List ℕ) → first ≡ gives values → first ≡ gives []) → (first then next) ≡ gives []
-    → (first ≡ gives []) × (next ≡ gives [])
+-- tests one after the other give values only where each does
+pub then-gives : (first next : Outcome) {values : List ℕ} → (first then next) ≡ gives values
+    → (own : List ℕ) × (first ≡ gives own) × (next ≡ gives values)
 unfolding _then_
-then-passes (gives values) next one h = (one values refl, h)
-then-passes (refuses n p) next one h = let z : _≡_ {A = ℕ} 0 1 = cc in absurd (omega arith)
+then-gives (gives own) next h = (own, refl, h)
+then-gives (refuses n p) next h = let z : _≡_ {A = ℕ} 0 1 = cc in absurd (omega arith)
 
 -- a record's tests give no values, if they give any
 one-pass : (i size arrival deadline : ℕ) (values : List ℕ) → recordTest i size arrival deadline ≡ gives values → recordTest i size arrival deadline ≡ gives []
@@ -126,14 +140,22 @@ one-pass i size arrival deadline values h =
     let f = when-gives 6 i (leb deadline arrival) refl (d .1) in
     h ∙ sym (f .1)
 
+-- and so do the tests of records
+pub tests-pass : (n i : ℕ) (records values : List ℕ) → recordTests n i records ≡ gives values → recordTests n i records ≡ gives []
+unfolding recordTests
+tests-pass zero i records values h = refl
+tests-pass (suc n) i records values h =
+    let a = then-gives (recordTest i (sizeOf records i) (arrivalOf records i) (deadlineOf records i)) _ h in
+    passed-then _ (sym (one-pass _ _ _ _ (a .0) (a .1))) ∙ tests-pass n (suc i) records values (a .2)
+
 -- where the tests of n records from record i on pass, each of these records is sound
-records-sound : (n i : ℕ) (records : List ℕ) → recordTests n i records ≡ gives []
+pub records-sound : (n i : ℕ) (records : List ℕ) → recordTests n i records ≡ gives []
     → (k : ℕ) → i ≤ k → k < i + n → Sound (sizeOf records k) (arrivalOf records k) (deadlineOf records k)
 unfolding recordTests
 records-sound zero i records h k low high = absurd (omega arith)
 records-sound (suc n) i records h k low high =
-    let split = then-passes _ _ (one-pass _ _ _ _) h in
-    go (split .0) (records-sound n (suc i) records (split .1) k) (decLe (suc i) k)
+    let a = then-gives (recordTest i (sizeOf records i) (arrivalOf records i) (deadlineOf records i)) _ h in
+    go (one-pass _ _ _ _ (a .0) (a .1)) (records-sound n (suc i) records (a .2) k) (decLe (suc i) k)
   where
     go : recordTest i (sizeOf records i) (arrivalOf records i) (deadlineOf records i) ≡ gives []
         → (suc i ≤ k → k < suc i + n → Sound (sizeOf records k) (arrivalOf records k) (deadlineOf records k))
@@ -172,3 +194,37 @@ accepted-memory count records a =
     let z : count ≡ 0 → ⊥ = λ (e : count ≡ 0). omega (arith, a .some) in
     simp (ne-eqb _ _ z, le-ltb _ _ (a .few), le-ltb _ _ (a .held))
     (sound-records count 0 records (λ k low high. a .sound k (omega arith)))
+
+-- ---- what the tests look at
+
+-- records that agree as far as the tests look come to the same
+pub tests-same : (n i : ℕ) (a b : List ℕ) → ((k : ℕ) → k < recordNumbers * (i + n) → getD a k 0 ≡ getD b k 0) → recordTests n i a ≡ recordTests n i b
+unfolding recordTests sizeOf arrivalOf deadlineOf
+tests-same zero i a b same = refl
+tests-same (suc n) i a b same =
+    rw (
+      same (recordNumbers * i) (omega arith),
+      same (recordNumbers * i + 1) (omega arith),
+      same (recordNumbers * i + 2) (omega arith),
+      tests-same n (suc i) a b (λ k h. same k (omega arith)),
+    )
+
+-- records past the count have no influence
+pub tests-past : (count : ℕ) (records extra : List ℕ) → recordNumbers * count ≤ length records
+    → recordTests count 0 (records ++ extra) ≡ recordTests count 0 records
+tests-past count records extra held =
+    tests-same count 0 (records ++ extra) records (λ k h. List·getD-append records extra 0 k (omega arith))
+
+-- the same of records that were stored at the front of a longer buffer
+pub tests-stored : (count : ℕ) (buffer records : List ℕ) → recordNumbers * count ≤ length records → length records ≤ length buffer
+    → recordTests count 0 (sets buffer 0 records) ≡ recordTests count 0 records
+tests-stored count buffer records held room =
+    ap (recordTests count 0) (sets-eq records buffer 0 (omega arith)) ∙ tests-past count records _ held
+
+-- ---- what a verdict tells
+
+pub verdict-refuses : {verdict : Verdict} {refusal : Refusal} {tests : Outcome} → verdict ≡ Refused refusal → verdictOf verdict ≡ tests → refusalOf refusal ≡ tests
+verdict-refuses v e = sym (ap verdictOf v) ∙ e
+
+pub verdict-passes : {verdict : Verdict} {tests : Outcome} → verdict ≡ Passed → verdictOf verdict ≡ tests → gives [] ≡ tests
+verdict-passes v e = sym (ap verdictOf v) ∙ e

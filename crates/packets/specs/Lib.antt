@@ -1,3 +1,4 @@
 pub mod Limits
 pub mod Outcome
 pub mod Records
+pub mod List

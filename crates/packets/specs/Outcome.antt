@@ -1,12 +1,16 @@
 -- What a call comes to: the values that it gives, or the refusal's number and place (document 01, "Refusal numbers and their order").
 -- `outcomeOf..` gives the number and the values of each case of an enum answer. Assumes nothing.
 use Prim.Native.Nat.{ℕ}
-use mathlib.Core.List.{List, []}
+use mathlib.Core.List.{List, [], _∷_}
 use mathlib.Core.Bool.{Bool, true, false}
 use Rattle.packets.specs.declared.refusal.Refusal.{Refusal}
 use Rattle.packets.specs.declared.refusal.Refusal.the-variants.{Short, NoPackets, TooManyPackets, Size, Deadline, Arrival, UnusedBit, NoRoom, EntryCount, Entry, Cost}
 use Rattle.packets.specs.declared.judge.Verdict.{Verdict}
 use Rattle.packets.specs.declared.judge.Verdict.the-variants.{Passed, Refused}
+use Rattle.packets.specs.declared.list.ListAnswer.{ListAnswer}
+use Rattle.packets.specs.declared.list.ListAnswer.the-variants as list-answer
+use Rattle.packets.specs.declared.list.WrittenAnswer.{WrittenAnswer}
+use Rattle.packets.specs.declared.list.WrittenAnswer.the-variants as written-answer
 
 pub data Outcome : Type 0 where
   -- the call gives these values
@@ -26,6 +30,12 @@ unfoldable pub _then_ : Outcome → Outcome → Outcome
 _then_ (gives values) next = next
 _then_ (refuses number place) next = refuses number place
 
+infix 10 _given_else_
+-- the first where the outcome gives values, and the second where it refuses
+unfoldable pub _given_else_ : {A : Type 0} → A → Outcome → A → A
+_given_else_ accepted (gives values) refused = accepted
+_given_else_ accepted (refuses number place) refused = refused
+
 -- the number and the place of a refusal
 abbrev pub refusalOf : Refusal → Outcome
 refusalOf Short = refuses 1 0
@@ -44,3 +54,13 @@ refusalOf Cost = refuses 11 0
 abbrev pub verdictOf : Verdict → Outcome
 verdictOf Passed = gives []
 verdictOf (Refused refusal) = refusalOf refusal
+
+-- a list that is read gives its packets and the bytes that it takes
+abbrev pub listAnswerOf : ListAnswer → Outcome
+listAnswerOf (list-answer.Packets count bytes) = gives (count ∷ bytes ∷ [])
+listAnswerOf (list-answer.Refused refusal) = refusalOf refusal
+
+-- a list that is written gives the bytes that it takes
+abbrev pub writtenAnswerOf : WrittenAnswer → Outcome
+writtenAnswerOf (written-answer.Written bytes) = gives (bytes ∷ [])
+writtenAnswerOf (written-answer.Refused refusal) = refusalOf refusal

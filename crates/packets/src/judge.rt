@@ -39,7 +39,7 @@ pub fn judge_packets(count: usize, records: &[u64]) -> Verdict
 }
 
 // The tests of each of the first count records, in order.
-fn judge_records(count: usize, records: &[u64]) -> Verdict
+pub fn judge_records(count: usize, records: &[u64]) -> Verdict
     requires { ⌜ recordNumbers * count ≤ length (now records) ⌝ }
     ensures { λ r. ⌜ verdictOf r ≡ recordTests count 0 (now (records .entry)) ⌝ }
 {

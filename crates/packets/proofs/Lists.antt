@@ -1,0 +1,210 @@
+-- Laws of the list on the wire: the bits that it takes, and what an answer that gives values tells. Assumes nothing.
+use Prim.Native.Nat.{ℕ, zero, suc, _+_, _-_, _*_, _/_, _<_, _≤_}
+use mathlib.Core.Path.{_≡_, refl, sym, ap, _∙_}
+use mathlib.Core.List.{List, [], _∷_, _++_}
+use native.Mathlib.Omega.{arith}
+use native.Mathlib.Nat.{zero-add}
+use lib.ListN.{length, getD, take, drop, length-drop}
+use lib.Seq.{sets, sets-eq, take-all}
+use lib.Dec.{eqb, ltb}
+use borrow.Author.Tests.{eqb-false, ltb-false, lt-ltb, le-ltb}
+use Rattle.bits.specs.Field.{fieldAt}
+use Rattle.bits.specs.Table.{total, rows, fieldsAt, unusedBits, fieldWidths, tableBytes, unusedAt, writeTable, AtMost}
+use Rattle.bits.proofs.Tables.{total-rows, length-rows, length-fields}
+use Rattle.packets.specs.Limits.{mostPackets}
+use Rattle.packets.specs.Outcome.{Outcome, gives, refuses, _when_else_, _then_, refusalOf}
+use Rattle.packets.specs.declared.refusal.Refusal.the-variants.{NoRoom}
+use Rattle.packets.specs.Records.{recordNumbers, recordTests, memoryTests}
+use Rattle.packets.specs.List.{countWidth, recordWidths, listBytes, countOn, recordsOn, unusedOn, wireTests, roomTest, readOutcome, recordsAfter, restAfter, writeOutcome, bytesAfter}
+use Rattle.packets.specs.declared.refusal.Refusal.{Refusal}
+use Rattle.packets.proofs.Records.{when-gives, then-gives, tests-pass, refused-then, passed-then, given-leaves, refused-leaves}
+
+-- ---- the bits of a list
+
+-- a record's bits
+record-total : total recordWidths ≡ 50
+unfolding total
+record-total = refl
+
+-- the records' bits
+pub records-total : (count : ℕ) → total (rows count recordWidths) ≡ 50 * count
+records-total count = total-rows count recordWidths ∙ rw record-total (omega arith)
+
+-- the count's bits and the records'
+pub list-total : (count : ℕ) → total (fieldWidths (countWidth ∷ []) recordWidths count) ≡ 7 + 50 * count
+unfolding fieldWidths total
+list-total count = omega (arith, records-total count)
+
+pub list-bytes-is : (count : ℕ) → listBytes count ≡ (7 + 50 * count + 7) / 8
+unfolding listBytes tableBytes
+list-bytes-is count = rw list-total
+
+pub unused-is : (bytes : List ℕ) → unusedOn bytes ≡ fieldAt bytes (7 + 50 * countOn bytes) (unusedBits (7 + 50 * countOn bytes))
+unfolding unusedOn unusedAt
+unused-is bytes = rw list-total
+
+-- no field of a list is wider than 64 bits
+pub count-narrow : AtMost 64 (countWidth ∷ [])
+count-narrow zero = omega arith
+count-narrow (suc i) = omega arith
+
+pub record-narrow : AtMost 64 recordWidths
+record-narrow zero = omega arith
+record-narrow (suc zero) = omega arith
+record-narrow (suc (suc zero)) = omega arith
+record-narrow (suc (suc (suc i))) = omega arith
+
+-- three numbers for each record
+pub length-records : (bytes : List ℕ) (count : ℕ) → length (fieldsAt bytes countWidth (rows count recordWidths)) ≡ recordNumbers * count
+length-records bytes count = length-fields bytes countWidth (rows count recordWidths) ∙ length-rows count recordWidths ∙ omega arith
+
+-- ---- what passing tells
+
+-- bytes that hold a whole list, with zero in its unused bits
+pub record Whole (bytes : List ℕ) : Type 0 where
+  pub some : 0 < countOn bytes
+  pub few : countOn bytes ≤ mostPackets
+  pub held : listBytes (countOn bytes) ≤ length bytes
+  pub clear : unusedOn bytes ≡ 0
+
+pub wire-whole : (bytes : List ℕ) (values : List ℕ) → wireTests bytes ≡ gives values → (values ≡ []) × Whole bytes
+unfolding wireTests
+wire-whole bytes values h =
+    let a = when-gives 1 0 (eqb (length bytes) 0) refl h in
+    let b = when-gives 2 0 (eqb (countOn bytes) 0) refl (a .1) in
+    let d = when-gives 3 0 (ltb mostPackets (countOn bytes)) refl (b .1) in
+    let e = when-gives 1 0 (ltb (length bytes) (listBytes (countOn bytes))) refl (d .1) in
+    let f = when-gives 7 0 (ltb 0 (unusedOn bytes)) refl (e .1) in
+    let z : countOn bytes ≡ 0 → ⊥ = eqb-false _ _ (b .0) in
+    let u : unusedOn bytes ≤ 0 = ltb-false _ _ (f .0) in
+    let v : gives [] ≡ gives values = f .1 in (
+      cc,
+      record {
+        some = omega arith;
+        few = ltb-false _ _ (d .0);
+        held = ltb-false _ _ (e .0);
+        clear = omega arith;
+      },
+    )
+
+-- ---- the answer of reading, test by test
+
+-- the records as the reader takes them
+pub records-are : (bytes : List ℕ) (count : ℕ) → count ≡ countOn bytes
+    → recordTests count 0 (fieldsAt bytes countWidth (rows count recordWidths)) ≡ recordTests (countOn bytes) 0 (recordsOn bytes)
+unfolding recordsOn
+records-are bytes count e = rw e
+
+module _ (bytes : List ℕ) (room : ℕ) where
+  pub wire-refuses : (refusal : Refusal) → refusalOf refusal ≡ wireTests bytes → refusalOf refusal ≡ readOutcome bytes room
+  unfolding readOutcome
+  wire-refuses refusal e = sym (refused-then refusal _ e)
+
+  pub records-refuse : (refusal : Refusal) → gives [] ≡ wireTests bytes → refusalOf refusal ≡ recordTests (countOn bytes) 0 (recordsOn bytes)
+      → refusalOf refusal ≡ readOutcome bytes room
+  unfolding readOutcome
+  records-refuse refusal wire e = sym (passed-then _ wire ∙ refused-then refusal _ e)
+
+  pub records-pass : gives [] ≡ wireTests bytes → gives [] ≡ recordTests (countOn bytes) 0 (recordsOn bytes) → roomTest bytes room ≡ readOutcome bytes room
+  unfolding readOutcome
+  records-pass wire e = sym (passed-then _ wire ∙ passed-then _ e)
+
+-- ---- what an answer that gives values tells
+
+-- a list that is read: whole, its records sound, and room for them
+pub record Readable (bytes : List ℕ) (room : ℕ) (values : List ℕ) : Type 0 where
+  pub whole : Whole bytes
+  pub sound : recordTests (countOn bytes) 0 (recordsOn bytes) ≡ gives []
+  pub held : recordNumbers * countOn bytes ≤ room
+  pub told : values ≡ countOn bytes ∷ listBytes (countOn bytes) ∷ []
+
+pub read-readable : (bytes : List ℕ) (room : ℕ) (values : List ℕ) → readOutcome bytes room ≡ gives values → Readable bytes room values
+unfolding readOutcome roomTest
+read-readable bytes room values h =
+    let a = then-gives (wireTests bytes) _ h in
+    let b = then-gives (recordTests (countOn bytes) 0 (recordsOn bytes)) _ (a .2) in
+    let d = when-gives 8 0 (ltb room (recordNumbers * countOn bytes)) refl (b .2) in
+    record {
+      whole = wire-whole bytes (a .0) (a .1) .1;
+      sound = tests-pass (countOn bytes) 0 (recordsOn bytes) (b .0) (b .1);
+      held = ltb-false _ _ (d .0);
+      told = let e : gives (countOn bytes ∷ listBytes (countOn bytes) ∷ []) ≡ gives values = d .1 in cc;
+    }
+
+-- what reading then leaves
+pub read-leaves : (bytes lent : List ℕ) (values : List ℕ) → gives values ≡ readOutcome bytes (length lent)
+    → (restAfter bytes (length lent) ≡ drop (listBytes (countOn bytes)) bytes) × (recordsAfter bytes lent ≡ sets lent 0 (recordsOn bytes))
+unfolding restAfter recordsAfter
+read-leaves bytes lent values e =
+    let r = read-readable bytes (length lent) values (sym e) in
+    let long : length (recordsOn bytes) ≡ recordNumbers * countOn bytes = (unfold recordsOn in (length-records bytes (countOn bytes))) in
+    let stored : recordsOn bytes ++ drop (0 + length (recordsOn bytes)) lent ≡ sets lent 0 (recordsOn bytes) =
+    sym (sets-eq (recordsOn bytes) lent 0 (omega (arith, r .held))) in
+    (given-leaves _ _ e, given-leaves _ _ e ∙ rw zero-add at stored)
+
+-- the numbers of such an answer, and the bounds that they meet
+pub record Told (bytes : List ℕ) (room count used : ℕ) : Type 0 where
+  pub packets : count ≡ countOn bytes
+  pub few : count ≤ mostPackets
+  pub taken : used ≡ listBytes (countOn bytes)
+  pub within : used ≤ length bytes
+  pub bits : countWidth + total (rows count recordWidths) ≤ 8 * length bytes
+  pub held : recordNumbers * count ≤ room
+
+pub read-told : (bytes : List ℕ) (room count used : ℕ) → gives (count ∷ used ∷ []) ≡ readOutcome bytes room → Told bytes room count used
+read-told bytes room count used e =
+    let r = read-readable bytes room (count ∷ used ∷ []) (sym e) in
+    let t = r .told in
+    let n : count ≡ countOn bytes = cc in
+    let u : used ≡ listBytes (countOn bytes) = cc in
+    let w = r .whole in
+    let held = r .held in
+    let long = list-bytes-is (countOn bytes) in
+    let bits = records-total count in
+    record { packets = n; few = omega arith; taken = u; within = omega arith; bits = omega arith; held = omega arith }
+
+-- what stands in every buffer when the list has been read
+pub read-done : (bytes lent filled : List ℕ) (count used : ℕ) → gives (count ∷ used ∷ []) ≡ readOutcome bytes (length lent)
+    → filled ≡ sets lent 0 (fieldsAt bytes countWidth (rows count recordWidths))
+    → (take (length bytes - used) (drop used bytes) ≡ restAfter bytes (length lent)) × (filled ≡ recordsAfter bytes lent)
+read-done bytes lent filled count used e stored =
+    let t = read-told bytes (length lent) count used e in
+    let l = read-leaves bytes lent _ e in
+    let whole : take (length bytes - used) (drop used bytes) ≡ drop used bytes = take-all (length bytes - used) (drop used bytes) (omega (arith, length-drop used bytes)) in (
+      whole ∙ ap (λ (n : ℕ). drop n bytes) (t .taken) ∙ sym (l .0),
+      stored ∙ ap (λ (n : ℕ). sets lent 0 (fieldsAt bytes countWidth (rows n recordWidths))) (t .packets) ∙ (unfold recordsOn in (sym (l .1))),
+    )
+
+-- and when it has been refused
+pub read-undone : (bytes lent : List ℕ) (refusal : Refusal) → refusalOf refusal ≡ readOutcome bytes (length lent)
+    → (bytes ≡ restAfter bytes (length lent)) × (lent ≡ recordsAfter bytes lent)
+unfolding restAfter recordsAfter
+read-undone bytes lent refusal e = (sym (refused-leaves refusal _ _ e), sym (refused-leaves refusal _ _ e))
+
+-- ---- writing
+
+module _ (count : ℕ) (records : List ℕ) (room : ℕ) where
+  pub memory-refuses : (refusal : Refusal) → refusalOf refusal ≡ memoryTests count records → refusalOf refusal ≡ writeOutcome count records room
+  unfolding writeOutcome
+  memory-refuses refusal e = sym (refused-then refusal _ e)
+
+  pub room-refuses : gives [] ≡ memoryTests count records → room < listBytes count → refusalOf NoRoom ≡ writeOutcome count records room
+  unfolding writeOutcome _when_else_
+  room-refuses e short = rw (passed-then _ e) (simp (lt-ltb _ _ short))
+
+  pub write-gives : gives [] ≡ memoryTests count records → listBytes count ≤ room → gives (listBytes count ∷ []) ≡ writeOutcome count records room
+  unfolding writeOutcome _when_else_
+  write-gives e held = rw (passed-then _ e) (simp (le-ltb _ _ held))
+
+-- what stands in the lent bytes when the list has been written, and when it has been refused
+pub write-done : (count : ℕ) (records lent written : List ℕ) → gives (listBytes count ∷ []) ≡ writeOutcome count records (length lent)
+    → written ≡ writeTable lent (countWidth ∷ []) recordWidths count ((count ∷ []) ++ take (count * 3) records) → written ≡ bytesAfter count records lent
+unfolding bytesAfter
+write-done count records lent written e w =
+    let c : count * 3 ≡ recordNumbers * count = omega arith in
+    rw c at w ∙ sym (given-leaves _ _ e)
+
+pub write-undone : (count : ℕ) (records lent : List ℕ) (refusal : Refusal) → refusalOf refusal ≡ writeOutcome count records (length lent)
+    → lent ≡ bytesAfter count records lent
+unfolding bytesAfter
+write-undone count records lent refusal e = sym (refused-leaves refusal _ _ e)

@@ -1,0 +1,100 @@
+-- `packets::list::judge_list` meets its contract: the bytes are tested, then the records, then the room, and the first refusal stands. Assumes nothing.
+use mathlib.Core.Path.{_≡_, sym, _∙_}
+use mathlib.Core.List.{[]}
+use native.Mathlib.Omega.{arith}
+use borrow.Author.Tests.{lt-ltb, le-ltb}
+use Rattle.packets.specs.Outcome.{gives, _when_else_}
+use Rattle.packets.specs.Records.{recordTests}
+use Rattle.packets.specs.List.{wireTests, countOn, recordsOn, roomTest}
+use Rattle.packets.proofs.Records.{verdict-refuses, verdict-passes}
+use Rattle.packets.proofs.Lists.{Whole, wire-whole, list-bytes-is, records-are, wire-refuses, records-refuse, records-pass}
+use borrow.Author.Needs.{needs}
+use Rattle.packets.proofs.list.judge_list.Statement.{statement}
+use Rattle.packets.proofs.list.judge_list.Tie as tie
+
+judge-wire-requires : tie.Need-judge-wire-requires
+judge-wire-requires c κs = search needs
+
+enum-known-wire : tie.Need-enum-known-wire
+enum-known-wire c = search needs
+
+returns : tie.Need-returns
+returns c = wire-refuses _ _ (c .before .wire .given .0 .0) (verdict-refuses (c .before .wire .given .1) (c .before .before .before .judge-wire .ensures))
+
+enum-told : tie.Need-enum-told
+enum-told c = search needs
+
+-- the bytes hold a whole list
+passes : (c : tie.After-enum-told) → gives [] ≡ wireTests (c .before .before .before .before .args .bytes .now)
+passes c = verdict-passes (c .enum-told .given .1) (c .before .before .judge-wire .ensures)
+
+whole : (c : tie.After-enum-told) → Whole (c .before .before .before .before .args .bytes .now)
+whole c = wire-whole _ [] (sym (passes c)) .1
+
+count-on-requires : tie.Need-count-on-requires
+count-on-requires c κs =
+    let w = whole c in
+    omega (arith, list-bytes-is (countOn (c .before .before .before .before .args .bytes .now)))
+
+judge-fields-requires : tie.Need-judge-fields-requires
+judge-fields-requires c κs =
+    let w = whole (c .before) in
+    let n = c .count-on .ensures .0 in
+    let used = list-bytes-is (countOn (c .before .before .before .before .before .args .bytes .now)) in
+    (omega arith, omega arith)
+
+enum-known-fields : tie.Need-enum-known-fields
+enum-known-fields c = search needs
+
+returns-2 : tie.Need-returns-2
+returns-2 c =
+    let t = c .before .before .before .before in
+    records-refuse _ _ (c .before .fields .given .0 .0) (passes (t .before))
+    (verdict-refuses (c .before .fields .given .1) (c .before .before .before .judge-fields .ensures) ∙ records-are _ _ (t .count-on .ensures .0))
+
+enum-told-2 : tie.Need-enum-told-2
+enum-told-2 c = search needs
+
+-- the records pass too
+left : (c : tie.After-enum-told2)
+    → gives []
+    ≡ recordTests (countOn (c .before .before .before .before .before .before .before .before .args .bytes .now)) 0 (recordsOn (c .before .before .before .before .before .before .before .before .args .bytes .now))
+left c =
+    verdict-passes (c .enum-told2 .given .1) (c .before .before .judge-fields .ensures) ∙ records-are _ _ (c .before .before .before .count-on .ensures .0)
+
+mul-if1 : tie.Need-mul-if1
+mul-if1 c = search needs
+
+returns-3 : tie.Need-returns-3
+unfolding roomTest _when_else_
+returns-3 c =
+    let t = c .before .before .before .before in
+    rw (← records-pass _ _ (passes (t .before)) (left (c .before)), ← t .count-on .ensures .0) (simp (lt-ltb _ _ (c .if1 .taken)))
+
+list-bytes-requires : tie.Need-list-bytes-requires
+list-bytes-requires c κs = search needs
+
+returns-4 : tie.Need-returns-4
+unfolding roomTest _when_else_
+returns-4 c =
+    let t = c .before .before .before .before .before in
+    rw (← records-pass _ _ (passes (t .before)) (left (c .before .before)), ← t .count-on .ensures .0, c .list-bytes .ensures)
+    (simp (le-ltb _ _ (c .before .if1 .left)))
+
+pub judge-list-spec : {M : Type 1} → statement M
+judge-list-spec =
+    tie.close
+    (tie.spec
+    judge-wire-requires
+    enum-known-wire
+    returns
+    enum-told
+    count-on-requires
+    judge-fields-requires
+    enum-known-fields
+    returns-2
+    enum-told-2
+    mul-if1
+    returns-3
+    list-bytes-requires
+    returns-4)
