@@ -15,3 +15,4 @@ pub mod Sorting
 pub mod Filling
 pub mod Sweeping
 pub mod Leading
+pub mod Turning

@@ -88,12 +88,13 @@ due-most from weights place s due count i p more t h few small q m =
 
 pub tallied-last : (from weights place : List ℕ) (s : ℕ) (due : List ℕ) (count i : ℕ) → TalliedSoFar from weights place s due i → i ≡ count
     → Tally count from weights place s due
-tallied-last from weights place s due count i t e c h = t .is c h ∙ ap (λ (k : ℕ). tallied k from weights place s c) e
+tallied-last from weights place s due count i t e =
+    record { is = λ c h. t .is c h ∙ ap (λ (k : ℕ). tallied k from weights place s c) e }
 
 -- a whole tally is within the bytes of a list
 pub tally-most : (from weights place : List ℕ) (s : ℕ) (due : List ℕ) (count : ℕ) → Tally count from weights place s due → count ≤ 64
     → ((k : ℕ) → k < count → getD weights k 0 ≤ 65535) → (c : ℕ) → c < 128 → getD due c 0 ≤ 4194240
-tally-most from weights place s due count t few small c h = omega (arith, t c h, tallied-most 65535 count from weights place s c small)
+tally-most from weights place s due count t few small c h = omega (arith, t .is c h, tallied-most 65535 count from weights place s c small)
 
 -- ## The sweep
 
@@ -195,7 +196,7 @@ led-next count from bytes place n points room marks due i leader leader' h t p q
     rw add-one (unfold led in (q ∙
     ap (λ (x : Leader). swept points room marks (λ c. getD due c 0) (getD from i 0) x (pred n)) p ∙
     swept-same points room marks (λ c. getD due c 0) (tallied count from bytes place (getD from i 0)) (getD from i 0) _ (pred n)
-    (λ c r. t c (within c r))))
+    (λ c r. t .is c (within c r))))
   where
     within : (c : ℕ) → c ≤ pred n → c < 128
     within c r = omega arith

@@ -4,13 +4,15 @@ use Prim.Native.Nat.{ℕ, zero, suc, pred, _+_, _-_, _*_, _^_, _<_, _≤_}
 use mathlib.Core.Path.{_≡_}
 use mathlib.Core.Bool.{Bool, true, false, _&&_, _||_}
 use mathlib.Core.List.{List}
-use lib.ListN.{getD}
+use lib.ListN.{getD, length, take, replicate}
 use lib.Dec.{eqb, leb, ltb}
 use Rattle.packets.specs.Limits.{lastSecond}
 use Rattle.packets.specs.Records.{arrivalOf, deadlineOf}
+use Rattle.fractions.specs.Fraction.{lowestN, lowestD}
 use Rattle.policy.specs.declared.densest.Leader.{Leader}
-use Rattle.policy.specs.Rounds.{ahead}
-use Rattle.policy.specs.Windows.{Windows, choose, onlyIf, sum}
+use Rattle.policy.specs.Points.{pointsOf, packetsOf}
+use Rattle.policy.specs.Rounds.{ahead, outcomeOf}
+use Rattle.policy.specs.Windows.{Windows, Given, none, rate, choose, onlyIf, sum}
 
 -- the lower of the best so far and t, which counts from `from` on
 unfoldable pub lower : ℕ → ℕ → ℕ → ℕ
@@ -44,8 +46,8 @@ unfoldable pub leftOver : ℕ → ℕ → ℕ
 leftOver d weight = onlyIf (eqb d 0) weight
 
 -- what is left of each of the first `count` weights
-abbrev pub Left : ℕ → List ℕ → List ℕ → List ℕ → Type 0
-Left count weight d left = (i : ℕ) → i < count → getD left i 0 ≡ leftOver (getD d i 0) (getD weight i 0)
+pub record Left (count : ℕ) (weight d left : List ℕ) : Type 0 where
+  pub is : (i : ℕ) → i < count → getD left i 0 ≡ leftOver (getD d i 0) (getD weight i 0)
 
 -- no rate yet, and inside [s, e)
 unfoldable pub fresh : ℕ → ℕ → ℕ → ℕ → ℕ → Bool
@@ -69,8 +71,8 @@ pub record PlaceIs (t n : ℕ) (points : List ℕ) (r : ℕ) : Type 0 where
   pub found : r < n → getD points r 0 ≡ t
 
 -- the place of each of the first `count` times
-abbrev pub Placed : ℕ → List ℕ → ℕ → List ℕ → List ℕ → Type 0
-Placed count times n points place = (i : ℕ) → i < count → PlaceIs (getD times i 0) n points (getD place i 0)
+pub record Placed (count : ℕ) (times : List ℕ) (n : ℕ) (points place : List ℕ) : Type 0 where
+  pub is : (i : ℕ) → i < count → PlaceIs (getD times i 0) n points (getD place i 0)
 
 -- the weight of what arrives from s on
 unfoldable pub countedFrom : ℕ → ℕ → ℕ → ℕ
@@ -82,8 +84,8 @@ tallied count from weights place s c =
     sum count (λ i. onlyIf (eqb (getD place i 0) c) (countedFrom s (getD from i 0) (getD weights i 0)))
 
 -- the tally of each place
-abbrev pub Tally : ℕ → List ℕ → List ℕ → List ℕ → ℕ → List ℕ → Type 0
-Tally count from weights place s due = (c : ℕ) → c < 128 → getD due c 0 ≡ tallied count from weights place s c
+pub record Tally (count : ℕ) (from weights place : List ℕ) (s : ℕ) (due : List ℕ) : Type 0 where
+  pub is : (c : ℕ) → c < 128 → getD due c 0 ≡ tallied count from weights place s c
 
 -- load and length whose cross products fit 64 bits
 pub record Small (x : Leader) : Type 0 where
@@ -125,3 +127,54 @@ unfoldable pub led : ℕ → List ℕ → List ℕ → List ℕ → ℕ → List
 led count from bytes place n points room marks zero = record { start = 0; end = 0; load = 0; len = 0 }
 led count from bytes place n points room marks (suc i) =
     swept points room marks (tallied count from bytes place (getD from i 0)) (getD from i 0) (led count from bytes place n points room marks i) (pred n)
+
+-- ## The rounds
+
+-- a D of 0 is no rate yet
+unfoldable pub givenOf : ℕ → ℕ → Given
+givenOf n zero = none
+givenOf n (suc d) = rate n (suc d)
+
+-- what the rounds work on stands in these arrays
+pub record SetUp (count : ℕ) (records : List ℕ) (n : ℕ) (points from till bytes ends seconds place marks : List ℕ) : Type 0 where
+  pub points-are : take n points ≡ pointsOf count records
+  pub n-is : n ≡ length (pointsOf count records)
+  pub packets-are : Spanned (packetsOf count records) from till bytes
+  pub epochs-are : Spanned (neighbours (pred n) points) points ends seconds
+  pub places-are : Placed count till n points place
+  pub marks-are : Tally count from (replicate 128 1) place 0 marks
+
+-- figures within which a round's sums fit
+pub record Ready (count n : ℕ) (bytes seconds place : List ℕ) : Type 0 where
+  pub few : count ≤ 64
+  pub some : 0 < n
+  pub most : n ≤ 128
+  pub bytes-most : (i : ℕ) → i < count → getD bytes i 0 ≤ 65535
+  pub seconds-most : (k : ℕ) → k < pred n → getD seconds k 0 ≤ 86400
+  pub place-in : (i : ℕ) → i < count → getD place i 0 < 128
+
+-- no rate yet
+pub record NoGifts (packet-d epoch-d : List ℕ) : Type 0 where
+  pub packets : (i : ℕ) → i < 128 → getD packet-d i 0 ≡ 0
+  pub epochs : (k : ℕ) → k < 128 → getD epoch-d k 0 ≡ 0
+
+-- r leads what is left of the packets and of the epochs
+pub record LeaderIs (count n : ℕ) (points from bytes seconds place marks packet-d epoch-d : List ℕ) (r : Leader) : Type 0 where
+  pub bytes-left : List ℕ
+  pub seconds-left : List ℕ
+  pub bytes-kept : Left count bytes packet-d bytes-left
+  pub seconds-kept : Left (pred n) seconds epoch-d seconds-left
+  pub leads : r ≡ led count from bytes-left place n points seconds-left marks count
+
+-- the leader's packets and epochs have its density in lowest terms
+pub record Taken (count n : ℕ) (points from till ends packet-n packet-d epoch-n epoch-d : List ℕ) (r : Leader) (packet-n' packet-d' epoch-n' epoch-d' : List ℕ) : Type 0 where
+  pub packets : Shared count from till packet-n packet-d (r .start) (r .end) (lowestN (r .load) (r .len)) (lowestD (r .load) (r .len)) packet-n' packet-d'
+  pub epochs : Shared (pred n) points ends epoch-n epoch-d (r .start) (r .end) (lowestN (r .load) (r .len)) (lowestD (r .load) (r .len)) epoch-n' epoch-d'
+
+-- the rates of a list stand in these arrays: the points, N and D of each packet and each epoch (D 0 for a silent one), and the rounds
+pub record Rated (count : ℕ) (records : List ℕ) (n : ℕ) (points packet-n packet-d epoch-n epoch-d : List ℕ) (rounds : ℕ) : Type 0 where
+  pub points-are : take n points ≡ pointsOf count records
+  pub n-is : n ≡ length (pointsOf count records)
+  pub packets-are : (i : ℕ) → i < count → givenOf (getD packet-n i 0) (getD packet-d i 0) ≡ outcomeOf count records .packet i
+  pub epochs-are : (k : ℕ) → k < pred n → givenOf (getD epoch-n k 0) (getD epoch-d k 0) ≡ outcomeOf count records .epoch k
+  pub rounds-are : rounds ≡ outcomeOf count records .rounds

@@ -3,6 +3,7 @@
 pub mod densest;
 pub mod packet;
 pub mod points;
+pub mod rates;
 pub mod spans;
 
 use packets::refusal::Refusal;

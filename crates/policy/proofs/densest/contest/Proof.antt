@@ -1,33 +1,23 @@
 use Rattle.policy.proofs.Sweeping.{unmarked-stays, empty-stays, first-leads, ahead-leads, behind-stays}
 use mathlib.Core.Path.{sym, _∙_}
-use borrow.Author.Needs.{needs}
 use Rattle.policy.proofs.densest.contest.Statement.{statement}
 use Rattle.policy.proofs.densest.contest.Tie as tie
-use Rattle.policy.proofs.densest.contest.Reads as reads
-use Rattle.policy.proofs.densest.contest.Lts as lts
-use Rattle.policy.proofs.densest.comes_first.Reads as comes-first-reads
 
--- src/densest.rt:80:9
 returns : tie.Need-returns
 returns c = (unmarked-stays _ _ _ _ _ _ (c .if1 .taken), c .before .pre .0)
 
--- src/densest.rt:83:9
 returns-2 : tie.Need-returns-2
 returns-2 c = (empty-stays _ _ _ _ _ _ (c .before .if1 .left) (c .if2 .taken), c .before .before .pre .0)
 
--- src/densest.rt:86:9
 returns-3 : tie.Need-returns-3
 returns-3 c = (first-leads _ _ _ _ _ _ (c .before .before .before .if1 .left) (c .before .before .if2 .left) (c .if3 .taken), record { load = c .before .before .before .before .pre .1; len = c .before .before .before .before .pre .2 })
 
--- src/densest.rt:88:8
 comes-first-requires : tie.Need-comes-first-requires
 comes-first-requires c κs = (record { load = c .before .before .before .before .pre .1; len = c .before .before .before .before .pre .2 }, c .before .before .before .before .pre .0)
 
--- src/densest.rt:89:9
 returns-4 : tie.Need-returns-4
 returns-4 c = (ahead-leads _ _ _ _ _ _ (c .before .before .before .before .before .if1 .left) (c .before .before .before .before .if2 .left) (c .before .before .if3 .left) (sym (c .before .comes-first .ensures) ∙ c .if4 .taken), record { load = c .before .before .before .before .before .before .pre .1; len = c .before .before .before .before .before .before .pre .2 })
 
--- src/densest.rt:69:1
 returns-5 : tie.Need-returns-5
 returns-5 c = (behind-stays _ _ _ _ _ _ (c .before .before .before .before .before .if1 .left) (c .before .before .before .before .if2 .left) (c .before .before .if3 .left) (sym (c .before .comes-first .ensures) ∙ c .if4 .left), c .before .before .before .before .before .before .pre .0)
 

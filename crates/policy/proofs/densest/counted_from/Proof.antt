@@ -2,18 +2,13 @@ use Rattle.policy.specs.Steps.{countedFrom}
 use Rattle.policy.specs.Windows.{onlyIf}
 use borrow.Author.Tests.{lt-leb, le-leb}
 use mathlib.Core.Path.{refl}
-use borrow.Author.Needs.{needs}
 use Rattle.policy.proofs.densest.counted_from.Statement.{statement}
 use Rattle.policy.proofs.densest.counted_from.Tie as tie
-use Rattle.policy.proofs.densest.counted_from.Reads as reads
-use Rattle.policy.proofs.densest.counted_from.Lts as lts
 
--- src/densest.rt:137:9
 returns : tie.Need-returns
 unfolding countedFrom onlyIf
 returns c = rw (lt-leb _ _ (c .if1 .taken)) refl
 
--- src/densest.rt:133:1
 returns-2 : tie.Need-returns-2
 unfolding countedFrom onlyIf
 returns-2 c = rw (le-leb _ _ (c .if1 .left)) refl

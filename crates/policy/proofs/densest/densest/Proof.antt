@@ -7,10 +7,6 @@ use Rattle.policy.proofs.Sweeping.{led-next, tally-most}
 use borrow.Author.Needs.{needs}
 use Rattle.policy.proofs.densest.densest.Statement.{statement}
 use Rattle.policy.proofs.densest.densest.Tie as tie
-use Rattle.policy.proofs.densest.densest.Reads as reads
-use Rattle.policy.proofs.densest.densest.Lts as lts
-use Rattle.policy.proofs.densest.sweep.Reads as sweep-reads
-use Rattle.policy.proofs.densest.tally.Reads as tally-reads
 
 abbrev Inv-loop : tie.InvT-loop
 Inv-loop count from bytes place n points room marks leader₀ i₀ leader i = (i ≤ count) × (leader ≡ led count from bytes place n points room marks i) × Small leader
@@ -18,40 +14,31 @@ Inv-loop count from bytes place n points room marks leader₀ i₀ leader i = (i
 abbrev μ-loop : tie.MeasureT-loop
 μ-loop count from bytes place n points room marks leader₀ i₀ leader i = count - i
 
--- src/densest.rt:30:5
 loop-holds : tie.Need-loop-holds Inv-loop μ-loop
 unfolding led
 loop-holds c = (omega arith, refl, record { load = omega arith; len = omega arith })
 
--- src/densest.rt:31:17
 mul-s : tie.Need-mul-s Inv-loop μ-loop
 mul-s c = search needs
 
--- src/densest.rt:31:17
 element-copy-out-s : tie.Need-element-copy-out-s Inv-loop μ-loop
 element-copy-out-s c = search needs
 
--- src/densest.rt:32:19
 tally-requires : tie.Need-tally-requires Inv-loop μ-loop
 tally-requires c κs = (c .before .before .before .pre .0, c .before .before .before .pre .3, c .before .before .before .pre .4)
 
--- src/densest.rt:33:9
 sweep-requires : tie.Need-sweep-requires Inv-loop μ-loop
 sweep-requires c κs = (c .before .before .before .before .before .pre .1, c .before .before .before .before .before .pre .2, c .before .before .before .before .before .pre .5, tally-most (c .before .before .before .before .before .args .from .now) (c .before .before .before .before .before .args .bytes .now) (c .before .before .before .before .before .args .place .now) (getD (c .before .before .before .before .before .args .from .now) (c .before .before .before .before .loop .i) 0) (c .before .tally .result) (c .before .before .before .before .before .args .count) (c .before .tally .ensures) (c .before .before .before .before .before .pre .0) (c .before .before .before .before .before .pre .4), c .before .before .before .before .loop .inv .2)
 
--- src/densest.rt:34:9
 add-i : tie.Need-add-i Inv-loop μ-loop
 add-i c = search needs
 
--- src/densest.rt:30:5
 loop-less : tie.Need-loop-less Inv-loop μ-loop
 loop-less c = search needs
 
--- src/densest.rt:30:5
 loop-again : tie.Need-loop-again Inv-loop μ-loop
 loop-again c = (omega arith, led-next _ _ _ _ _ _ _ _ _ _ _ _ (c .before .before .before .before .before .before .pre .2) (c .before .before .tally .ensures) (c .before .before .before .before .before .loop .inv .1) (c .sweep .ensures .0), c .sweep .ensures .1)
 
--- src/densest.rt:19:1
 returns : tie.Need-returns Inv-loop μ-loop
 returns c = c .before .loop .inv .1 ∙ ap (led _ _ _ _ _ _ _ _) (omega arith)
 

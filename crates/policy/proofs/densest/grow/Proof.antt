@@ -6,19 +6,14 @@ use mathlib.Core.Path.{refl}
 use borrow.Author.Needs.{needs}
 use Rattle.policy.proofs.densest.grow.Statement.{statement}
 use Rattle.policy.proofs.densest.grow.Tie as tie
-use Rattle.policy.proofs.densest.grow.Reads as reads
-use Rattle.policy.proofs.densest.grow.Lts as lts
 
--- src/densest.rt:63:9
 returns : tie.Need-returns
 unfolding grown onlyIf
 returns c = rw (lt-leb _ _ (c .if1 .taken)) (omega arith)
 
--- src/densest.rt:65:5
 add-result : tie.Need-add-result
 add-result c = search needs
 
--- src/densest.rt:58:1
 returns-2 : tie.Need-returns-2
 unfolding grown onlyIf
 returns-2 c = rw (le-leb _ _ (c .if1 .left)) refl

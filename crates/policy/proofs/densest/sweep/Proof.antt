@@ -11,10 +11,6 @@ use Rattle.policy.proofs.Sweeping.{SweptSoFar, swept-first, swept-next}
 use borrow.Author.Needs.{needs}
 use Rattle.policy.proofs.densest.sweep.Statement.{statement}
 use Rattle.policy.proofs.densest.sweep.Tie as tie
-use Rattle.policy.proofs.densest.sweep.Reads as reads
-use Rattle.policy.proofs.densest.sweep.Lts as lts
-use Rattle.policy.proofs.densest.contest.Reads as contest-reads
-use Rattle.policy.proofs.densest.grow.Reads as grow-reads
 
 abbrev Inv-loop : tie.InvT-loop
 Inv-loop n points room marks due s leader₀ load₀ len₀ b₀ leader load len b = (b < n) × SweptSoFar points room marks due s leader₀ leader load len b
@@ -22,35 +18,27 @@ Inv-loop n points room marks due s leader₀ load₀ len₀ b₀ leader load len
 abbrev μ-loop : tie.MeasureT-loop
 μ-loop n points room marks due s leader₀ load₀ len₀ b₀ leader load len b = n - b
 
--- src/densest.rt:45:20
 element-copy-out-load : tie.Need-element-copy-out-load Inv-loop μ-loop
 element-copy-out-load c = search needs
 
--- src/densest.rt:48:5
 loop-holds : tie.Need-loop-holds Inv-loop μ-loop
 loop-holds c = (c .before .pre .0, swept-first _ _ _ _ _ _ _ (c .before .pre .4) refl (c .before .pre .3 0 (omega arith)))
 
--- src/densest.rt:48:11
 add-loop : tie.Need-add-loop Inv-loop μ-loop
 add-loop c = omega arith
 
--- src/densest.rt:49:28
 mul-grow : tie.Need-mul-grow Inv-loop μ-loop
 mul-grow c = search needs
 
--- src/densest.rt:49:28
 element-copy-out-grow : tie.Need-element-copy-out-grow Inv-loop μ-loop
 element-copy-out-grow c = search needs
 
--- src/densest.rt:49:39
 mul-grow-2 : tie.Need-mul-grow-2 Inv-loop μ-loop
 mul-grow-2 c = search needs
 
--- src/densest.rt:49:39
 element-copy-out-grow-2 : tie.Need-element-copy-out-grow-2 Inv-loop μ-loop
 element-copy-out-grow-2 c = search needs
 
--- src/densest.rt:49:9
 -- an epoch's seconds
 seconds : (c : tie.In-loop Inv-loop μ-loop) → getD (c .before .before .before .args .room .now) (c .before .loop .b) 0 ≤ 86400
 seconds c = c .before .before .before .pre .2 _ (omega (arith, c .loop-test .taken))
@@ -62,51 +50,39 @@ bytes c = c .before .before .before .pre .3 _ (omega (arith, c .loop-test .taken
 grow-requires : tie.Need-grow-requires Inv-loop μ-loop
 grow-requires c κs = (omega (arith, c .before .before .before .loop .inv .1 .len-most, c .before .before .loop-test .taken, c .before .before .before .before .before .pre .1), omega (arith, seconds (c .before .before)))
 
--- src/densest.rt:50:9
 add-b : tie.Need-add-b Inv-loop μ-loop
 add-b c = search needs
 
--- src/densest.rt:51:17
 mul-load : tie.Need-mul-load Inv-loop μ-loop
 mul-load c = search needs
 
--- src/densest.rt:51:17
 element-copy-out-load-2 : tie.Need-element-copy-out-load-2 Inv-loop μ-loop
 element-copy-out-load-2 c = search needs
 
--- src/densest.rt:51:9
 add-load : tie.Need-add-load Inv-loop μ-loop
 add-load c = omega (arith, bytes (c .before .before .before .before), c .before .before .before .before .before .loop .inv .1 .load-most, c .before .before .before .before .loop-test .taken, c .before .before .before .before .before .before .before .pre .1)
 
--- src/densest.rt:52:34
 mul-contest : tie.Need-mul-contest Inv-loop μ-loop
 mul-contest c = search needs
 
--- src/densest.rt:52:34
 element-copy-out-contest : tie.Need-element-copy-out-contest Inv-loop μ-loop
 element-copy-out-contest c = search needs
 
--- src/densest.rt:52:47
 mul-contest-2 : tie.Need-mul-contest-2 Inv-loop μ-loop
 mul-contest-2 c = search needs
 
--- src/densest.rt:52:47
 element-copy-out-contest-2 : tie.Need-element-copy-out-contest-2 Inv-loop μ-loop
 element-copy-out-contest-2 c = search needs
 
--- src/densest.rt:52:9
 contest-requires : tie.Need-contest-requires Inv-loop μ-loop
 contest-requires c κs = (c .before .before .before .before .before .before .before .loop .inv .1 .small, omega (arith, bytes (c .before .before .before .before .before .before), c .before .before .before .before .before .before .before .loop .inv .1 .load-most, c .before .before .before .before .before .before .loop-test .taken, c .before .before .before .before .before .before .before .before .before .pre .1), omega (arith, c .before .before .before .grow .ensures, grown-most (c .before .before .before .before .before .before .before .loop .len) (c .before .before .before .before .before .before .before .before .before .args .s) (getD (c .before .before .before .before .before .before .before .before .before .args .points .now) (c .before .before .before .before .before .before .before .loop .b) 0) (getD (c .before .before .before .before .before .before .before .before .before .args .room .now) (c .before .before .before .before .before .before .before .loop .b) 0), seconds (c .before .before .before .before .before .before), c .before .before .before .before .before .before .before .loop .inv .1 .len-most, c .before .before .before .before .before .before .loop-test .taken, c .before .before .before .before .before .before .before .before .before .pre .1))
 
--- src/densest.rt:48:5
 loop-less : tie.Need-loop-less Inv-loop μ-loop
 loop-less c = omega arith
 
--- src/densest.rt:48:5
 loop-again : tie.Need-loop-again Inv-loop μ-loop
 loop-again c = (c .before .before .before .before .before .before .before .loop-test .taken, swept-next _ _ _ _ _ _ _ _ _ _ _ _ (c .before .before .before .before .before .before .before .before .loop .inv .1) (c .before .before .before .before .grow .ensures) (seconds (c .before .before .before .before .before .before .before)) (bytes (c .before .before .before .before .before .before .before)) (c .contest .ensures .0) (c .contest .ensures .1))
 
--- src/densest.rt:40:1
 returns : tie.Need-returns Inv-loop μ-loop
 unfolding sweptOver
 returns c = (c .before .loop .inv .1 .leads ∙ ap (swept _ _ _ _ _ _) (omega arith), c .before .loop .inv .1 .small)

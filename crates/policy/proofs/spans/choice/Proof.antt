@@ -1,18 +1,13 @@
 use mathlib.Core.Path.{refl}
 use Rattle.policy.specs.Steps.{chosen}
 use Rattle.policy.specs.Windows.{choose}
-use borrow.Author.Needs.{needs}
 use Rattle.policy.proofs.spans.choice.Statement.{statement}
 use Rattle.policy.proofs.spans.choice.Tie as tie
-use Rattle.policy.proofs.spans.choice.Reads as reads
-use Rattle.policy.proofs.spans.choice.Lts as lts
 
--- src/spans.rt:121:9
 returns : tie.Need-returns
 unfolding chosen choose
 returns c = rw (c .if1 .taken) refl
 
--- src/spans.rt:117:1
 returns-2 : tie.Need-returns-2
 unfolding chosen choose
 returns-2 c = rw (c .if1 .left) refl

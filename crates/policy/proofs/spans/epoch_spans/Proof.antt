@@ -8,8 +8,6 @@ use Rattle.policy.proofs.Filling.{Filled, filled-none, filled-more}
 use borrow.Author.Needs.{needs}
 use Rattle.policy.proofs.spans.epoch_spans.Statement.{statement}
 use Rattle.policy.proofs.spans.epoch_spans.Tie as tie
-use Rattle.policy.proofs.spans.epoch_spans.Reads as reads
-use Rattle.policy.proofs.spans.epoch_spans.Lts as lts
 
 abbrev Inv-loop : tie.InvT-loop
 Inv-loop epochs points till₀ weight₀ k₀ till weight k = (k ≤ epochs) × Filled (λ i. getD points (suc i) 0) till k × Filled (λ i. getD points (suc i) 0 - getD points i 0) weight k
@@ -17,75 +15,57 @@ Inv-loop epochs points till₀ weight₀ k₀ till weight k = (k ≤ epochs) × 
 abbrev μ-loop : tie.MeasureT-loop
 μ-loop epochs points till₀ weight₀ k₀ till weight k = epochs - k
 
--- src/spans.rt:50:5
 loop-holds : tie.Need-loop-holds Inv-loop μ-loop
 loop-holds c = (omega arith, filled-none _ _ refl, filled-none _ _ refl)
 
--- src/spans.rt:51:26
 add-till : tie.Need-add-till Inv-loop μ-loop
 add-till c = search needs
 
--- src/spans.rt:51:19
 mul-till : tie.Need-mul-till Inv-loop μ-loop
 mul-till c = search needs
 
--- src/spans.rt:51:19
 array-read-till : tie.Need-array-read-till Inv-loop μ-loop
 array-read-till c = search needs
 
--- src/spans.rt:51:9
 mul-till-2 : tie.Need-mul-till-2 Inv-loop μ-loop
 mul-till-2 c = search needs
 
--- src/spans.rt:51:9
 array-write-till : tie.Need-array-write-till Inv-loop μ-loop
 array-write-till c = search needs
 
--- src/spans.rt:52:28
 add-weight : tie.Need-add-weight Inv-loop μ-loop
 add-weight c = search needs
 
--- src/spans.rt:52:21
 mul-weight : tie.Need-mul-weight Inv-loop μ-loop
 mul-weight c = search needs
 
--- src/spans.rt:52:21
 array-read-weight : tie.Need-array-read-weight Inv-loop μ-loop
 array-read-weight c = search needs
 
--- src/spans.rt:52:37
 mul-weight-2 : tie.Need-mul-weight-2 Inv-loop μ-loop
 mul-weight-2 c = search needs
 
--- src/spans.rt:52:37
 array-read-weight-2 : tie.Need-array-read-weight-2 Inv-loop μ-loop
 array-read-weight-2 c = search needs
 
--- src/spans.rt:52:21
 sub-weight : tie.Need-sub-weight Inv-loop μ-loop
 sub-weight c = rw add-one (c .before .before .pre .1 _ (c .loop-test .taken))
 
--- src/spans.rt:52:9
 mul-weight-3 : tie.Need-mul-weight-3 Inv-loop μ-loop
 mul-weight-3 c = search needs
 
--- src/spans.rt:52:9
 array-write-weight : tie.Need-array-write-weight Inv-loop μ-loop
 array-write-weight c = search needs
 
--- src/spans.rt:53:9
 add-k : tie.Need-add-k Inv-loop μ-loop
 add-k c = search needs
 
--- src/spans.rt:50:5
 loop-less : tie.Need-loop-less Inv-loop μ-loop
 loop-less c = search needs
 
--- src/spans.rt:50:5
 loop-again : tie.Need-loop-again Inv-loop μ-loop
 loop-again c = (omega arith, filled-more _ _ _ _ (omega arith) (c .before .loop .inv .1) (rw add-one refl), filled-more _ _ _ _ (omega arith) (c .before .loop .inv .2) (rw add-one refl))
 
--- src/spans.rt:43:1
 returns : tie.Need-returns Inv-loop μ-loop
 unfolding neighbours
 returns c = record { from-is = λ i h. refl; till-is = λ i h. c .before .loop .inv .1 .below i (omega arith); weight-is = λ i h. c .before .loop .inv .2 .below i (omega arith) }

@@ -8,10 +8,6 @@ use Rattle.policy.proofs.Filling.{Halfway, halfway-none, halfway-more}
 use borrow.Author.Needs.{needs}
 use Rattle.policy.proofs.spans.give.Statement.{statement}
 use Rattle.policy.proofs.spans.give.Tie as tie
-use Rattle.policy.proofs.spans.give.Reads as reads
-use Rattle.policy.proofs.spans.give.Lts as lts
-use Rattle.policy.proofs.spans.choice.Reads as choice-reads
-use Rattle.policy.proofs.spans.is_fresh.Reads as is-fresh-reads
 
 abbrev Inv-loop : tie.InvT-loop
 Inv-loop count s e from till n₀ d₀ rate-n rate-d i₀ n d i = (i ≤ count) × Halfway (λ k. chosen (fresh (getD d₀ k 0) s e (getD from k 0) (getD till k 0)) rate-n (getD n₀ k 0)) n₀ n i × Halfway (λ k. chosen (fresh (getD d₀ k 0) s e (getD from k 0) (getD till k 0)) rate-d (getD d₀ k 0)) d₀ d i
@@ -19,91 +15,69 @@ Inv-loop count s e from till n₀ d₀ rate-n rate-d i₀ n d i = (i ≤ count) 
 abbrev μ-loop : tie.MeasureT-loop
 μ-loop count s e from till n₀ d₀ rate-n rate-d i₀ n d i = count - i
 
--- src/spans.rt:95:5
 loop-holds : tie.Need-loop-holds Inv-loop μ-loop
 loop-holds c = (omega arith, halfway-none _ _ (search needs), halfway-none _ _ (search needs))
 
--- src/spans.rt:96:29
 mul-is-fresh : tie.Need-mul-is-fresh Inv-loop μ-loop
 mul-is-fresh c = search needs
 
--- src/spans.rt:96:29
 array-read-is-fresh : tie.Need-array-read-is-fresh Inv-loop μ-loop
 array-read-is-fresh c = search needs
 
--- src/spans.rt:96:41
 mul-is-fresh-2 : tie.Need-mul-is-fresh-2 Inv-loop μ-loop
 mul-is-fresh-2 c = search needs
 
--- src/spans.rt:96:41
 array-read-is-fresh-2 : tie.Need-array-read-is-fresh-2 Inv-loop μ-loop
 array-read-is-fresh-2 c = search needs
 
--- src/spans.rt:96:50
 mul-is-fresh-3 : tie.Need-mul-is-fresh-3 Inv-loop μ-loop
 mul-is-fresh-3 c = search needs
 
--- src/spans.rt:96:50
 array-read-is-fresh-3 : tie.Need-array-read-is-fresh-3 Inv-loop μ-loop
 array-read-is-fresh-3 c = search needs
 
--- src/spans.rt:96:13
 is-fresh-requires : tie.Need-is-fresh-requires Inv-loop μ-loop
 is-fresh-requires c κs = search needs
 
--- src/spans.rt:97:37
 mul-choice : tie.Need-mul-choice Inv-loop μ-loop
 mul-choice c = search needs
 
--- src/spans.rt:97:37
 array-read-choice : tie.Need-array-read-choice Inv-loop μ-loop
 array-read-choice c = search needs
 
--- src/spans.rt:97:16
 choice-requires : tie.Need-choice-requires Inv-loop μ-loop
 choice-requires c κs = search needs
 
--- src/spans.rt:97:9
 mul-n : tie.Need-mul-n Inv-loop μ-loop
 mul-n c = search needs
 
--- src/spans.rt:97:9
 array-write-n : tie.Need-array-write-n Inv-loop μ-loop
 array-write-n c = search needs
 
--- src/spans.rt:98:37
 mul-choice-2 : tie.Need-mul-choice-2 Inv-loop μ-loop
 mul-choice-2 c = search needs
 
--- src/spans.rt:98:37
 array-read-choice-2 : tie.Need-array-read-choice-2 Inv-loop μ-loop
 array-read-choice-2 c = search needs
 
--- src/spans.rt:98:16
 choice-requires-2 : tie.Need-choice-requires-2 Inv-loop μ-loop
 choice-requires-2 c κs = search needs
 
--- src/spans.rt:98:9
 mul-d : tie.Need-mul-d Inv-loop μ-loop
 mul-d c = search needs
 
--- src/spans.rt:98:9
 array-write-d : tie.Need-array-write-d Inv-loop μ-loop
 array-write-d c = search needs
 
--- src/spans.rt:99:9
 add-i : tie.Need-add-i Inv-loop μ-loop
 add-i c = search needs
 
--- src/spans.rt:95:5
 loop-less : tie.Need-loop-less Inv-loop μ-loop
 loop-less c = search needs
 
--- src/spans.rt:95:5
 loop-again : tie.Need-loop-again Inv-loop μ-loop
 loop-again c = (omega arith, halfway-more _ _ _ _ _ (omega arith) (c .before .before .before .before .loop .inv .1) (gift _ _ _ _ _ (c .before .choice .ensures) (c .before .before .is-fresh .ensures) (c .before .before .before .before .loop .inv .2 .above _ (omega arith)) (c .before .before .before .before .loop .inv .1 .above _ (omega arith))), halfway-more _ _ _ _ _ (omega arith) (c .before .before .before .before .loop .inv .2) (gift _ _ _ _ _ (c .choice2 .ensures) (c .before .before .is-fresh .ensures) (c .before .before .before .before .loop .inv .2 .above _ (omega arith)) (c .before .before .before .before .loop .inv .2 .above _ (omega arith))))
 
--- src/spans.rt:86:1
 returns : tie.Need-returns Inv-loop μ-loop
 returns c = record { n-is = λ i h. c .before .loop .inv .1 .filled .below i (omega arith); d-is = λ i h. c .before .loop .inv .2 .filled .below i (omega arith) }
 

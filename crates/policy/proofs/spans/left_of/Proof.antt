@@ -2,18 +2,13 @@ use borrow.Author.Tests.{eq-eqb, ne-eqb}
 use mathlib.Core.Path.{refl}
 use Rattle.policy.specs.Steps.{leftOver}
 use Rattle.policy.specs.Windows.{onlyIf}
-use borrow.Author.Needs.{needs}
 use Rattle.policy.proofs.spans.left_of.Statement.{statement}
 use Rattle.policy.proofs.spans.left_of.Tie as tie
-use Rattle.policy.proofs.spans.left_of.Reads as reads
-use Rattle.policy.proofs.spans.left_of.Lts as lts
 
--- src/spans.rt:80:9
 returns : tie.Need-returns
 unfolding leftOver onlyIf
 returns c = rw (eq-eqb _ _ (c .if1 .taken)) refl
 
--- src/spans.rt:76:1
 returns-2 : tie.Need-returns-2
 unfolding leftOver onlyIf
 returns-2 c = rw (ne-eqb _ _ (c .if1 .left)) refl

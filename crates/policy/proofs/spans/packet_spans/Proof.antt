@@ -8,11 +8,6 @@ use Rattle.policy.proofs.Filling.{Filled, filled-none, filled-more}
 use borrow.Author.Needs.{needs}
 use Rattle.policy.proofs.spans.packet_spans.Statement.{statement}
 use Rattle.policy.proofs.spans.packet_spans.Tie as tie
-use Rattle.policy.proofs.spans.packet_spans.Reads as reads
-use Rattle.policy.proofs.spans.packet_spans.Lts as lts
-use Rattle.policy.proofs.packet.air_size.Reads as air-size-reads
-use Rattle.policy.proofs.packet.arrival.Reads as arrival-reads
-use Rattle.policy.proofs.packet.deadline.Reads as deadline-reads
 
 abbrev Inv-loop : tie.InvT-loop
 Inv-loop count records from₀ till₀ weight₀ i₀ from till weight i = (i ≤ count) × Filled (arrivalOf records) from i × Filled (deadlineOf records) till i × Filled (λ k. airBytes (sizeOf records k)) weight i
@@ -20,59 +15,45 @@ Inv-loop count records from₀ till₀ weight₀ i₀ from till weight i = (i �
 abbrev μ-loop : tie.MeasureT-loop
 μ-loop count records from₀ till₀ weight₀ i₀ from till weight i = count - i
 
--- src/spans.rt:33:5
 loop-holds : tie.Need-loop-holds Inv-loop μ-loop
 loop-holds c = (omega arith, filled-none _ _ refl, filled-none _ _ refl, filled-none _ _ refl)
 
--- src/spans.rt:34:19
 arrival-requires : tie.Need-arrival-requires Inv-loop μ-loop
 arrival-requires c κs = search needs
 
--- src/spans.rt:34:9
 mul-from : tie.Need-mul-from Inv-loop μ-loop
 mul-from c = search needs
 
--- src/spans.rt:34:9
 array-write-from : tie.Need-array-write-from Inv-loop μ-loop
 array-write-from c = search needs
 
--- src/spans.rt:35:19
 deadline-requires : tie.Need-deadline-requires Inv-loop μ-loop
 deadline-requires c κs = search needs
 
--- src/spans.rt:35:9
 mul-till : tie.Need-mul-till Inv-loop μ-loop
 mul-till c = search needs
 
--- src/spans.rt:35:9
 array-write-till : tie.Need-array-write-till Inv-loop μ-loop
 array-write-till c = search needs
 
--- src/spans.rt:36:21
 air-size-requires : tie.Need-air-size-requires Inv-loop μ-loop
 air-size-requires c κs = search needs
 
--- src/spans.rt:36:9
 mul-weight : tie.Need-mul-weight Inv-loop μ-loop
 mul-weight c = search needs
 
--- src/spans.rt:36:9
 array-write-weight : tie.Need-array-write-weight Inv-loop μ-loop
 array-write-weight c = search needs
 
--- src/spans.rt:37:9
 add-i : tie.Need-add-i Inv-loop μ-loop
 add-i c = search needs
 
--- src/spans.rt:33:5
 loop-less : tie.Need-loop-less Inv-loop μ-loop
 loop-less c = search needs
 
--- src/spans.rt:33:5
 loop-again : tie.Need-loop-again Inv-loop μ-loop
 loop-again c = (omega arith, filled-more _ _ _ _ (omega arith) (c .before .before .before .before .loop .inv .1) (c .before .before .arrival .ensures), filled-more _ _ _ _ (omega arith) (c .before .before .before .before .loop .inv .2) (c .before .deadline .ensures), filled-more _ _ _ _ (omega arith) (c .before .before .before .before .loop .inv .3) (c .air-size .ensures))
 
--- src/spans.rt:25:1
 returns : tie.Need-returns Inv-loop μ-loop
 unfolding packetsOf
 returns c = record { from-is = λ i h. c .before .loop .inv .1 .below i (omega arith); till-is = λ i h. c .before .loop .inv .2 .below i (omega arith); weight-is = λ i h. c .before .loop .inv .3 .below i (omega arith) }
