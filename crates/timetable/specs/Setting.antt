@@ -1,0 +1,6 @@
+-- The radio's setting (document 01, "The two timetables"). Bytes per second. Assumes nothing.
+use Prim.Native.Nat.{ℕ, pred, _+_, _/_}
+
+-- R, the rate N/D rounded up to a whole number (bytes per second)
+unfoldable pub setting : ℕ → ℕ → ℕ
+setting n d = (n + pred d) / d
