@@ -1,0 +1,82 @@
+-- The worked lists A, C, D, E and F of document 01 go through the definitions: epochs and rounds, then start, N and D of each epoch. Assumes nothing.
+use Prim.Native.Nat.{ℕ, zero, suc, pred}
+use mathlib.Core.Path.{_≡_, refl}
+use mathlib.Core.List.{List, [], _∷_}
+use Rattle.packets.specs.Limits.{airBytes}
+use Rattle.packets.specs.Outcome.{Outcome, gives, refuses, _when_else_, _then_, inOrder}
+use Rattle.packets.specs.Records.{sizeOf, arrivalOf, deadlineOf, recordTest, recordAt, recordTests, memoryTests}
+use Rattle.fractions.specs.Fraction.{euclid, gcd, lowestN, lowestD}
+use Rattle.policy.specs.Windows.{assign, choose, inside, left, onlyIf, sum, unassigned}
+use Rattle.policy.specs.Points.{epochsOf, packetsOf, pointsOf, withPoint}
+use Rattle.policy.specs.Rounds.{after, atFirst, beats, bestFrom, bestOf, better, dayOf, giveRate, leads, len, load, outcomeOf, pick, round, roundOf, taken}
+use Rattle.policy.specs.Answer.{epochCount, epochRows, ratesAfter, ratesOf, ratesOutcome, shownD, shownN}
+
+-- a list, what its call gives with room for `room` numbers, and the rows that are written
+record Case : Type 0 where
+  count : ℕ
+  records : List ℕ
+  room : ℕ
+  answer : Outcome
+  rows : List ℕ
+
+Holds : Case → Type 0
+Holds x = (ratesOutcome (x .count) (x .records) (x .room) ≡ x .answer) × (ratesOf (x .count) (x .records) ≡ x .rows)
+
+-- 3 packets, 5 epochs, 3 rounds
+abbrev A : Case
+A =
+    record {
+      count = 3;
+      records = 30 ∷ 0 ∷ 10 ∷ 40 ∷ 2 ∷ 6 ∷ 9 ∷ 8 ∷ 14 ∷ [];
+      room = 15;
+      answer = gives (5 ∷ 3 ∷ []);
+      rows = 0 ∷ 5 ∷ 1 ∷ 2 ∷ 10 ∷ 1 ∷ 6 ∷ 5 ∷ 1 ∷ 8 ∷ 5 ∷ 1 ∷ 10 ∷ 9 ∷ 4 ∷ [];
+    }
+
+-- two packets of one window
+abbrev C : Case
+C =
+    record {
+      count = 2;
+      records = 3 ∷ 0 ∷ 4 ∷ 5 ∷ 0 ∷ 4 ∷ [];
+      room = 3;
+      answer = gives (1 ∷ 1 ∷ []);
+      rows = 0 ∷ 2 ∷ 1 ∷ [];
+    }
+
+-- rates 1/5 and 2
+abbrev D : Case
+D =
+    record {
+      count = 2;
+      records = 1 ∷ 0 ∷ 10 ∷ 10 ∷ 5 ∷ 10 ∷ [];
+      room = 6;
+      answer = gives (2 ∷ 2 ∷ []);
+      rows = 0 ∷ 1 ∷ 5 ∷ 5 ∷ 2 ∷ 1 ∷ [];
+    }
+
+-- a silent epoch from 2 to 5 seconds
+abbrev E : Case
+E =
+    record {
+      count = 2;
+      records = 10 ∷ 0 ∷ 2 ∷ 10 ∷ 5 ∷ 7 ∷ [];
+      room = 9;
+      answer = gives (3 ∷ 2 ∷ []);
+      rows = 0 ∷ 5 ∷ 1 ∷ 2 ∷ 0 ∷ 1 ∷ 5 ∷ 5 ∷ 1 ∷ [];
+    }
+
+-- the whole day
+abbrev F : Case
+F =
+    record {
+      count = 1;
+      records = 65535 ∷ 0 ∷ 86400 ∷ [];
+      room = 3;
+      answer = gives (1 ∷ 1 ∷ []);
+      rows = 0 ∷ 4369 ∷ 5760 ∷ [];
+    }
+
+worked : Holds A × Holds C × Holds D × Holds E × Holds F
+unfolding Holds airBytes _when_else_ _then_ inOrder recordAt sizeOf arrivalOf deadlineOf recordTest recordTests memoryTests euclid gcd lowestN lowestD assign choose inside left onlyIf sum unassigned epochsOf packetsOf pointsOf withPoint after atFirst beats bestFrom bestOf better dayOf giveRate leads len load outcomeOf pick round roundOf taken epochCount epochRows ratesOf ratesOutcome shownD shownN
+worked = ((refl, refl), (refl, refl), (refl, refl), (refl, refl), (refl, refl))

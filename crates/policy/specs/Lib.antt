@@ -1,0 +1,7 @@
+pub mod Windows
+pub mod Points
+pub mod Rounds
+pub mod Runs
+pub mod Carried
+pub mod Answer
+pub mod Steps
