@@ -1,0 +1,9 @@
+mod Worked
+pub mod Earliest
+pub mod Turning
+pub mod Within
+pub mod NeverLate
+pub mod Entered
+pub mod Settings
+pub mod Lists
+pub mod Costs

@@ -1,0 +1,4 @@
+pub mod Setting
+pub mod Entries
+pub mod Costs
+pub mod Right
