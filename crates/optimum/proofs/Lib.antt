@@ -1,0 +1,9 @@
+pub mod Sums
+pub mod Squares
+pub mod LowerBound
+pub mod Totals
+pub mod Slots
+pub mod CommonUnits
+pub mod Rates
+pub mod Rounding
+pub mod Lists
