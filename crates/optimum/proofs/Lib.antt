@@ -6,4 +6,6 @@ pub mod Slots
 pub mod CommonUnits
 pub mod Rates
 pub mod Rounding
+pub mod Stretches
+pub mod ExactRival
 pub mod Lists
