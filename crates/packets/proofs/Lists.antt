@@ -212,7 +212,20 @@ write-undone count records lent refusal e = sym (refused-leaves refusal _ _ e)
 
 -- ---- a list for the layers above
 
--- a list that is read passes the tests of its bytes and of its records, and its packets are accepted
+-- where the tests of the bytes and of the records pass, the packets are accepted
+pub packets-accepted : (bytes own values : List ℕ) → wireTests bytes ≡ gives own → recordTests (countOn bytes) 0 (recordsOn bytes) ≡ gives values
+    → Accepted (countOn bytes) (recordsOn bytes)
+packets-accepted bytes own values wire tests =
+    let w = wire-whole bytes own wire .1 in
+    let long : length (recordsOn bytes) ≡ recordNumbers * countOn bytes = (unfold recordsOn in (length-records bytes (countOn bytes))) in
+    record {
+      some = w .some;
+      few = w .few;
+      held = omega (arith, long);
+      sound = λ i within. records-sound (countOn bytes) 0 (recordsOn bytes) values tests i (omega arith) (omega arith);
+    }
+
+-- a list that is read passes both, and its packets are accepted
 pub read-passes : (bytes : List ℕ) (room : ℕ) (values : List ℕ) → readOutcome bytes room ≡ gives values
     → (gives [] ≡ wireTests bytes) × (gives [] ≡ recordTests (countOn bytes) 0 (recordsOn bytes)) × Accepted (countOn bytes) (recordsOn bytes)
 unfolding readOutcome
@@ -220,16 +233,7 @@ read-passes bytes room values h =
     let a = then-gives (wireTests bytes) _ h in
     let w = wire-whole bytes (a .0) (a .1) in
     let r = read-readable bytes room values (unfold readOutcome in h) in
-    let long : length (recordsOn bytes) ≡ recordNumbers * countOn bytes = (unfold recordsOn in (length-records bytes (countOn bytes))) in (
-      sym (a .1 ∙ ap gives (w .0)),
-      sym (r .sound),
-      record {
-        some = r .whole .some;
-        few = r .whole .few;
-        held = omega (arith, long);
-        sound = λ i within. records-sound (countOn bytes) 0 (recordsOn bytes) [] (r .sound) i (omega arith) (omega arith);
-      },
-    )
+    (sym (a .1 ∙ ap gives (w .0)), sym (r .sound), packets-accepted bytes (a .0) [] (a .1) (r .sound))
 
 -- a list that is refused although there is room for every record is refused for its bytes or its records, whatever is tested after them
 pub read-refused : (bytes : List ℕ) (refusal : Refusal) (next : Outcome) → refusalOf refusal ≡ readOutcome bytes (recordNumbers * mostPackets)
