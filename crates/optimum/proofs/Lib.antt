@@ -9,3 +9,5 @@ pub mod Rounding
 pub mod Stretches
 pub mod ExactRival
 pub mod Lists
+mod Wrong
+mod Worked
