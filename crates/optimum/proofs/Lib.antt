@@ -4,6 +4,7 @@ pub mod LowerBound
 pub mod Totals
 pub mod Slots
 pub mod CommonUnits
+pub mod NoCheaper
 pub mod Rates
 pub mod Rounding
 pub mod Stretches

@@ -11,8 +11,8 @@
 -- (xi) a tangent of the table in place of the square, and K2 with the table's rise as the price; (xiii) `same-rates`, with the exact timetable as the rival that
 -- attains the bound.
 -- Assumes nothing.
-use Prim.Native.Nat.{ℕ, zero, suc, _+_, _*_, _<_, _≤_}
-use mathlib.Core.Path.{_≡_, refl, sym, ap, _∙_}
+use Prim.Native.Nat.{ℕ, _+_, _*_, _<_, _≤_}
+use mathlib.Core.Path.{_≡_, ap, _∙_}
 use mathlib.Core.Logic.{_⊎_, inl, inr}
 use native.Mathlib.Omega.{arith}
 use native.Mathlib.Nat.{le-of-mul-le-mul-left, mul-le-mul-left, mul-le-mul-right}

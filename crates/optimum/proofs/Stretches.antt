@@ -1,21 +1,18 @@
 -- Stretches second by second. What one entry sends in each second adds up to the entry; outside its epoch it sends nothing; and the entries of one epoch, which
 -- do not overlap, send at most N units in any second of it. Units are 1/D byte. Assumes nothing.
-use Prim.Native.Nat.{ℕ, zero, suc, _+_, _-_, _*_, _/_, _<_, _≤_, _∣_, min, max}
-use mathlib.Core.Path.{_≡_, refl, sym, ap, subst, _∙_}
-use mathlib.Core.Bool.{Bool, true, false}
+use Prim.Native.Nat.{ℕ, zero, suc, _+_, _-_, _*_, _/_, _<_, _≤_, min, max}
+use mathlib.Core.Path.{_≡_, refl, sym, ap, _∙_}
 use mathlib.Core.List.{List, [], _∷_}
 use mathlib.Core.Logic.{_⊎_, inl, inr}
 use native.Mathlib.Omega.{arith}
 use native.Mathlib.Decide.{decLe, decLt}
-use native.Mathlib.Nat.{le-antisymm, le-trans, mul-le-mul-left, mul-le-mul-right, mul-pos}
-use lib.Dec.{eqb}
-use Rattle.policy.specs.Windows.{Given, rate, onlyIf, choose, sum}
+use native.Mathlib.Nat.{le-trans, mul-le-mul-right}
+use Rattle.policy.specs.Windows.{rate, sum}
 use Rattle.policy.specs.Rounds.{Day, Progress}
 use Rattle.policy.proofs.Sums.{sum-add, sum-none}
 use Rattle.timetable.specs.Entries.{Entry, unitsIn}
 use Rattle.timetable.specs.Right.{Each, EndsBy, Ordered, Right}
 use Rattle.timetable.proofs.NeverLate.{Rated}
-use Rattle.optimum.specs.Rival.{Fraction, whole, plus}
 use Rattle.optimum.specs.Optimum.{unitsAt}
 
 -- ## Sums over entries
