@@ -17,10 +17,10 @@ use Rattle.policy.proofs.Facts.{AtLeast, assigned}
 use Rattle.timetable.specs.Costs.{commonD, exactCostD, exactCostIn, exactCostN}
 use Rattle.timetable.proofs.NeverLate.{Rated}
 use Rattle.timetable.proofs.Costs.{common}
-use Rattle.optimum.specs.Rival.{Fraction, NotAbove, Rival, rivalCost}
+use Rattle.optimum.specs.Rival.{Fraction, Equal, NotAbove, Rival, slotRate, rivalCost}
 use Rattle.optimum.proofs.Totals.{product-some}
 use Rattle.optimum.proofs.Slots.{rateAt}
-use Rattle.optimum.proofs.NoCheaper.{Conditions, by-slots, no-cheaper}
+use Rattle.optimum.proofs.NoCheaper.{Conditions, by-slots, no-cheaper, same-slot-rates}
 
 -- the epochs end by the last second of the day, and each slot of a packet's window lies in one of them
 pub record Cut (seconds : ℕ) (day : Day) : Type 0 where
@@ -154,3 +154,13 @@ module _ (day : Day) (rates : Progress) (r : Rated day rates) where
     no-rival-below slots bytes rival =
         subst (λ (x : ℕ). NotAbove (record { over = x; under = L * L }) (rivalCost seconds (day .packets) slots bytes)) by-epochs
         (no-cheaper seconds (day .packets) (day .epochs) L packetRate epochRate conditions slots bytes rival)
+
+    -- one that costs as little has the rate of the epoch in every slot
+    pub same-rival-rates : (slots : ℕ) (bytes : ℕ → ℕ → Fraction) → Rival seconds (day .packets) slots bytes
+        → Equal (rivalCost seconds (day .packets) slots bytes) (record { over = exactCostN day rates; under = exactCostD day rates })
+        → (t : ℕ) → t < slots * seconds
+        → Equal (slotRate (day .packets) slots bytes t) (record { over = rateAt (day .epochs) slots epochRate t; under = L })
+    unfolding exactCostD
+    same-rival-rates slots bytes rival e =
+        same-slot-rates seconds (day .packets) (day .epochs) L packetRate epochRate conditions slots bytes rival
+        (subst (λ (x : ℕ). Equal (rivalCost seconds (day .packets) slots bytes) (record { over = x; under = L * L })) (sym by-epochs) e)
