@@ -17,7 +17,7 @@ use Rattle.packets.specs.declared.list.WrittenAnswer.the-variants as wri
 use Rattle.packets.specs.Outcome.{Outcome, gives, refuses, refusalOf, verdictOf, listAnswerOf, writtenAnswerOf}
 use Rattle.packets.specs.Records.{memoryTests}
 use Rattle.packets.specs.List.{ListJudged, ListRead, ListWritten}
-use Rattle.packets.proofs.Records.{refusal-refuses}
+use Rattle.packets.proofs.Outcomes.{refusal-refuses}
 
 -- ---- refusals
 

@@ -6,8 +6,8 @@ use mathlib.Core.List.{List, [], _∷_}
 use lib.ListN.{replicate}
 use Rattle.bits.specs.Field.{digit, bit, spelt, fieldAt, bytesFrom, replaced, putField}
 use Rattle.bits.specs.Table.{total, rows, fieldsAt, putFields, fieldWidths, tableWidths, tableBytes, unusedAt, writeTable}
-use Rattle.packets.specs.Outcome.{Outcome, gives, refuses, _when_else_, _then_, _given_else_}
-use Rattle.packets.specs.Records.{sizeOf, arrivalOf, deadlineOf, recordTest, recordTests, memoryTests}
+use Rattle.packets.specs.Outcome.{Outcome, gives, refuses, _when_else_, _then_, inOrder, _given_else_}
+use Rattle.packets.specs.Records.{sizeOf, arrivalOf, deadlineOf, recordTest, recordAt, recordTests, memoryTests}
 use Rattle.packets.specs.List.{listBytes, countOn, recordsOn, unusedOn, wireTests, roomTest, readOutcome, recordsAfter, restAfter, writeOutcome, bytesAfter}
 
 -- the bytes of list B, one packet of 1 byte, from 0 to 1 seconds
@@ -33,5 +33,5 @@ cases : (came ≡ said)
     × (bytesAfter 1 (1 ∷ 0 ∷ 1 ∷ []) (replicate 8 0xff) ≡ listB)
     × (recordsAfter listB (9 ∷ 9 ∷ 9 ∷ []) ≡ 1 ∷ 0 ∷ 1 ∷ [])
     × (restAfter listB 3 ≡ [])
-unfolding came said listB digit bit spelt fieldAt bytesFrom replaced putField total rows fieldsAt putFields fieldWidths tableWidths tableBytes unusedAt writeTable _when_else_ _then_ _given_else_ sizeOf arrivalOf deadlineOf recordTest recordTests memoryTests listBytes countOn recordsOn unusedOn wireTests roomTest readOutcome recordsAfter restAfter writeOutcome bytesAfter
+unfolding came said listB digit bit spelt fieldAt bytesFrom replaced putField total rows fieldsAt putFields fieldWidths tableWidths tableBytes unusedAt writeTable _when_else_ _then_ _given_else_ sizeOf arrivalOf deadlineOf recordTest recordAt recordTests inOrder memoryTests listBytes countOn recordsOn unusedOn wireTests roomTest readOutcome recordsAfter restAfter writeOutcome bytesAfter
 cases = (refl, refl, refl, refl)

@@ -1,3 +1,4 @@
+pub mod Outcomes
 pub mod Records
 pub mod Lists
 pub mod Answers

@@ -17,7 +17,8 @@ use Rattle.packets.specs.declared.refusal.Refusal.the-variants.{NoRoom}
 use Rattle.packets.specs.Records.{recordNumbers, recordTests, memoryTests}
 use Rattle.packets.specs.List.{countWidth, recordWidths, listBytes, countOn, recordsOn, unusedOn, wireTests, roomTest, readOutcome, recordsAfter, restAfter, writeOutcome, bytesAfter}
 use Rattle.packets.specs.declared.refusal.Refusal.{Refusal}
-use Rattle.packets.proofs.Records.{when-gives, then-gives, tests-pass, refused-then, passed-then, given-leaves, refused-leaves}
+use Rattle.packets.proofs.Outcomes.{when-gives, then-gives, refused-then, passed-then, given-leaves, refused-leaves}
+use Rattle.packets.proofs.Records.{tests-pass}
 
 -- ---- the bits of a list
 

@@ -15,7 +15,8 @@ use Rattle.packets.specs.Limits.{mostPackets}
 use Rattle.packets.specs.Outcome.{Outcome, gives, refuses, _when_else_, _then_}
 use Rattle.packets.specs.Records.{recordNumbers, sizeOf, arrivalOf, deadlineOf, recordTests, memoryTests, Sound, Accepted}
 use Rattle.packets.specs.List.{countWidth, recordWidths, listBytes, countOn, recordsOn, unusedOn, wireTests, roomTest, readOutcome, recordsAfter, restAfter, writeOutcome, bytesAfter}
-use Rattle.packets.proofs.Records.{passed-then, given-leaves, tests-past, records-sound, memory-accepted, accepted-memory}
+use Rattle.packets.proofs.Outcomes.{passed-then, given-leaves}
+use Rattle.packets.proofs.Records.{tests-past, records-sound, memory-accepted, accepted-memory}
 use Rattle.packets.proofs.Lists.{Whole, Readable, read-readable, read-leaves, list-bytes-is, length-records, write-gives}
 
 -- ---- written and read back
@@ -155,7 +156,7 @@ module _ (bytes room out : List ℕ) (small : Bytes bytes) (small-out : Bytes ou
         some = read .whole .some;
         few = read .whole .few;
         held = rw held (omega (arith, length-on, length-append (recordsOn bytes) (drop (length (recordsOn bytes)) room)));
-        sound = λ i within. records-sound (countOn bytes) 0 (recordsAfter bytes room) tests-on i (omega arith) (omega arith);
+        sound = λ i within. records-sound (countOn bytes) 0 (recordsAfter bytes room) [] tests-on i (omega arith) (omega arith);
       }
 
   -- the values of the table, and the records that are written, are the same

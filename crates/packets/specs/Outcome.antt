@@ -1,6 +1,6 @@
 -- What a call comes to: the values that it gives, or the refusal's number and place (document 01, "Refusal numbers and their order").
 -- `outcomeOf..` gives the number and the values of each case of an enum answer. Assumes nothing.
-use Prim.Native.Nat.{ℕ}
+use Prim.Native.Nat.{ℕ, zero, suc}
 use mathlib.Core.List.{List, [], _∷_}
 use mathlib.Core.Bool.{Bool, true, false}
 use Rattle.packets.specs.declared.refusal.Refusal.{Refusal}
@@ -29,6 +29,11 @@ infixr 15 _then_
 unfoldable pub _then_ : Outcome → Outcome → Outcome
 _then_ (gives values) next = next
 _then_ (refuses number place) next = refuses number place
+
+-- n tests in order, from number i on: the first refusal, or no values where there is none
+unfoldable pub inOrder : (ℕ → Outcome) → ℕ → ℕ → Outcome
+inOrder test zero i = gives []
+inOrder test (suc n) i = test i then inOrder test n (suc i)
 
 infix 10 _given_else_
 -- the first where the outcome gives values, and the second where it refuses

@@ -1,12 +1,12 @@
 -- Packets in memory, and the tests of their records (document 01, "Figures and their units" and "Refusal numbers and their order").
 -- Packets are numbered from 0 packets. A packet's record is three numbers of the lent list: its size (bytes), its arrival (seconds) and its
 -- deadline (seconds). Assumes nothing.
-use Prim.Native.Nat.{ℕ, zero, suc, _+_, _*_, _<_, _≤_}
+use Prim.Native.Nat.{ℕ, _+_, _*_, _<_, _≤_}
 use mathlib.Core.List.{List, []}
 use lib.ListN.{length, getD}
 use lib.Dec.{eqb, ltb, leb}
 use Rattle.packets.specs.Limits.{mostPackets, largestSize, lastSecond}
-use Rattle.packets.specs.Outcome.{Outcome, gives, refuses, _when_else_, _then_}
+use Rattle.packets.specs.Outcome.{Outcome, gives, refuses, _when_else_, inOrder}
 
 -- the numbers of a record
 abbrev pub recordNumbers : ℕ
@@ -33,12 +33,13 @@ recordTest i size arrival deadline =
     refuses 6 i when leb deadline arrival else
     gives []
 
--- the tests of the n records from record i on, in order: the first fault, or no values where there is none
+-- the tests of record i
+unfoldable pub recordAt : List ℕ → ℕ → Outcome
+recordAt records i = recordTest i (sizeOf records i) (arrivalOf records i) (deadlineOf records i)
+
+-- the tests of the n records from record i on, in order
 unfoldable pub recordTests : ℕ → ℕ → List ℕ → Outcome
-recordTests zero i records = gives []
-recordTests (suc n) i records =
-    recordTest i (sizeOf records i) (arrivalOf records i) (deadlineOf records i) then
-    recordTests n (suc i) records
+recordTests n i records = inOrder (recordAt records) n i
 
 -- the tests of packets in memory, of which `count` are called for: 2, 3, 1, then the records
 unfoldable pub memoryTests : ℕ → List ℕ → Outcome

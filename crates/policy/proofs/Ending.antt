@@ -6,7 +6,7 @@ use mathlib.Core.Bool.{Bool, true, false}
 use mathlib.Core.Logic.{_⊎_, inl, inr}
 use native.Mathlib.Omega.{arith}
 use Rattle.policy.specs.Windows.{Given, rate, unassigned}
-use Rattle.policy.specs.Rounds.{Day, Progress, atFirst, load, len, Interval, nowhere, between, pick, given, taken, roundOf, round, after}
+use Rattle.policy.specs.Rounds.{Day, Progress, atFirst, load, len, Interval, nowhere, between, pick, giveRate, taken, roundOf, round, after}
 use Rattle.policy.specs.Runs.{Best, Candidate, Densest, DataInterval, Run, begin, next, Finished}
 use Rattle.policy.proofs.Left.{not-both-ways, left-some}
 use Rattle.policy.proofs.Proper.{Proper}
@@ -74,7 +74,7 @@ module _ (day : Day) (proper : Proper day) where
 
       turn : here .rounds ≡ k → (x : Interval) → pick day here ≡ x → (roundOf day here x .rounds ≡ suc k) ⊎ Finished day (roundOf day here x)
       turn p nowhere q = unfold roundOf in inr (no-pick-finished here (after-runs k) q)
-      turn p (between s e) q = unfold roundOf taken given in inl (ap suc p)
+      turn p (between s e) q = unfold roundOf taken giveRate in inl (ap suc p)
 
       go : (here .rounds ≡ k) ⊎ Finished day here → (round day here .rounds ≡ suc k) ⊎ Finished day (round day here)
       go (inl p) = unfold round in turn p (pick day here) refl

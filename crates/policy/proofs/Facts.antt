@@ -12,7 +12,7 @@ use Rattle.fractions.specs.Fraction.{gcd, lowestN, lowestD}
 use Rattle.fractions.proofs.Euclid.{gcd-positive}
 use Rattle.fractions.proofs.LowestTerms.{load-is, length-is, value-kept, lowest-is-lowest, lowestN-positive, lowestD-positive, lowestN-small, lowestD-small}
 use Rattle.policy.specs.Windows.{Windows, Given, none, rate, unassigned, inside, onlyIf, left, assign, sum}
-use Rattle.policy.specs.Rounds.{Day, Progress, atFirst, load, len, given, taken}
+use Rattle.policy.specs.Rounds.{Day, Progress, atFirst, load, len, giveRate, taken}
 use Rattle.policy.specs.Runs.{DataInterval, Candidate, Densest, Run, begin, next}
 use Rattle.policy.specs.Carried.{carries, carried, carriedInAll, priceOf, priced, inUnits}
 use Rattle.policy.proofs.Sums.{sum-at, sum-le, sum-none}
@@ -164,7 +164,7 @@ module _ (day : Day) (proper : Proper day) (done : Progress) (facts : Facts day 
   D = lowestD l m
 
   abbrev then' : Progress
-  then' = given day done s e N D
+  then' = giveRate day done s e N D
 
   long : 0 < m
   long = facts .positive s e (best .candidate .holds)
@@ -218,7 +218,7 @@ module _ (day : Day) (proper : Proper day) (done : Progress) (facts : Facts day 
       D-some
 
   bounded' : (k n d : ℕ) → k < day .epochs .count → then' .epoch k ≡ rate n d → Bounded day then' n d
-  unfolding given
+  unfolding giveRate
   bounded' k n d h p = go (ways (day .epochs) s e N D (done .epoch) k)
     where
       go : Ways (day .epochs) s e N D (done .epoch) k → Bounded day then' n d
@@ -237,7 +237,7 @@ module _ (day : Day) (proper : Proper day) (done : Progress) (facts : Facts day 
 
   K1' : (i k n d : ℕ) → i < day .packets .count → k < day .epochs .count → then' .packet i ≡ rate n d
       → day .packets .from i ≤ day .epochs .from k → day .epochs .till k ≤ day .packets .till i → AtLeast (then' .epoch k) n d
-  unfolding given
+  unfolding giveRate
   K1' i k n d hi hk p a b = go (ways (day .packets) s e N D (done .packet) i)
     where
       over : N ≡ n → D ≡ d → inside (day .epochs) s e k ≡ true → AtLeast (then' .epoch k) n d
@@ -275,7 +275,7 @@ module _ (day : Day) (proper : Proper day) (done : Progress) (facts : Facts day 
 
   K2' : (L : ℕ) (price : ℕ → ℕ → ℕ) → ((i n d : ℕ) → i < day .packets .count → then' .packet i ≡ rate n d → d ∣ L)
       → priced price (day .packets) (then' .packet) * L ≡ priced (λ n d. inUnits L n d * price n d) (day .epochs) (then' .epoch)
-  unfolding given load len inUnits
+  unfolding giveRate load len inUnits
   K2' L price multiple =
       let x = left-some (day .packets) (done .packet) s e (best .candidate .holds) in
       let whole : D ∣ L = multiple (x .0) N D (x .1) (assign-new (day .packets) s e N D (done .packet) (x .0) (x .2) (x .3)) in
@@ -291,7 +291,7 @@ module _ (day : Day) (proper : Proper day) (done : Progress) (facts : Facts day 
       )
 
   H' : (n d s' e' : ℕ) → carried (day .packets) (then' .packet) n d s' e' * d ≤ n * carried (day .epochs) (then' .epoch) n d s' e'
-  unfolding given
+  unfolding giveRate
   H' n d s' e' =
       rw (carried-after (day .packets) (done .packet) s e N D n d s' e', carried-after (day .epochs) (done .epoch) s e N D n d s' e')
       (added (carries (rate N D) n d) n d N D _ _ _ _ (carries-same N D n d) (facts .H n d s' e') shared)
@@ -300,13 +300,13 @@ module _ (day : Day) (proper : Proper day) (done : Progress) (facts : Facts day 
       shared = unfold load len in before (max s s') (min e e')
 
   H-all' : (n d : ℕ) → carriedInAll (day .packets) (then' .packet) n d * d ≡ n * carriedInAll (day .epochs) (then' .epoch) n d
-  unfolding given
+  unfolding giveRate
   H-all' n d =
       rw (carried-in-all-after (day .packets) (done .packet) s e N D n d, carried-in-all-after (day .epochs) (done .epoch) s e N D n d)
       (added-all (carries (rate N D) n d) n d N D _ _ _ _ (carries-same N D n d) (facts .H-all n d) (unfold load len in tight))
 
   counted' : then' .rounds + remaining (day .packets) (then' .packet) ≤ day .packets .count
-  unfolding given load
+  unfolding giveRate load
   counted' =
       let x = left-some (day .packets) (done .packet) s e (best .candidate .holds) in
       omega (arith, facts .counted, remaining-fewer (day .packets) (done .packet) s e N D (x .0) (x .1) (x .2) (x .3))
@@ -318,8 +318,8 @@ module _ (day : Day) (proper : Proper day) (done : Progress) (facts : Facts day 
       record {
         positive = positive';
         bounded = bounded';
-        packet-rate = λ i n d h p. rate-of (day .packets) (done .packet) i n d (facts .packet-rate i n d h) (unfold given in p);
-        epoch-rate = λ k n d h p. rate-of (day .epochs) (done .epoch) k n d (facts .epoch-rate k n d h) (unfold given in p);
+        packet-rate = λ i n d h p. rate-of (day .packets) (done .packet) i n d (facts .packet-rate i n d h) (unfold giveRate in p);
+        epoch-rate = λ k n d h p. rate-of (day .epochs) (done .epoch) k n d (facts .epoch-rate k n d h) (unfold giveRate in p);
         K1 = K1';
         K2 = K2';
         H = H';

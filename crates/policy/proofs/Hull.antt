@@ -13,7 +13,7 @@ use Rattle.fractions.specs.Fraction.{gcd, lowestN, lowestD}
 use Rattle.fractions.proofs.Euclid.{gcd-positive}
 use Rattle.fractions.proofs.LowestTerms.{load-is, length-is, value-kept}
 use Rattle.policy.specs.Windows.{Windows, Given, none, rate, unassigned, inside, onlyIf, left, assign, sum}
-use Rattle.policy.specs.Rounds.{Day, Progress, atFirst, load, len, given, taken}
+use Rattle.policy.specs.Rounds.{Day, Progress, atFirst, load, len, giveRate, taken}
 use Rattle.policy.specs.Runs.{DataInterval, Candidate, Densest}
 use borrow.Author.Tests.{ltb-true, lt-ltb}
 use lib.Dec.{ltb}
@@ -163,8 +163,8 @@ module _ (day : Day) (proper : Proper day) (done : Progress) (s e n d : ℕ) (da
 
   -- an interval that meets [s, e)
   meets : (n' d' s' e' : ℕ) → s' < e → s < e'
-      → load day (given day done s e n' d') s' e' * d ≤ n * len day (given day done s e n' d') s' e'
-  unfolding load len given
+      → load day (giveRate day done s e n' d') s' e' * d ≤ n * len day (giveRate day done s e n' d') s' e'
+  unfolding load len giveRate
   meets n' d' s' e' m m' =
       let more = hull-more (day .packets) (done .packet) s e n' d' s' e' (min s s') (max e e') (omega arith) (omega arith) (omega arith) (omega arith) in
       let less = hull-less (day .epochs) (done .epoch) s e n' d' s' e' (min s s') (max e e') (epoch-split s' e' m m') in
@@ -172,8 +172,8 @@ module _ (day : Day) (proper : Proper day) (done : Progress) (s e n d : ℕ) (da
 
   -- an interval apart from [s, e)
   apart : (n' d' s' e' : ℕ) → (e ≤ s') ⊎ (e' ≤ s)
-      → load day (given day done s e n' d') s' e' * d ≤ n * len day (given day done s e n' d') s' e'
-  unfolding load len given
+      → load day (giveRate day done s e n' d') s' e' * d ≤ n * len day (giveRate day done s e n' d') s' e'
+  unfolding load len giveRate
   apart n' d' s' e' away =
       let fewer = left-fewer (day .packets) (done .packet) s e n' d' s' e' in
       let same = left-apart (day .epochs) (done .epoch) s e n' d' s' e' (λ k h i. outside k h i (inside (day .epochs) s e k) refl) in
@@ -188,10 +188,10 @@ module _ (day : Day) (proper : Proper day) (done : Progress) (s e n d : ℕ) (da
       outside k h i false j = refl
 
   -- bounded by N/D and tight in [s, e): bounded by N/D when [s, e) has been taken
-  pub hull : (n' d' : ℕ) → Bounded day (given day done s e n' d') n d
+  pub hull : (n' d' : ℕ) → Bounded day (giveRate day done s e n' d') n d
   hull n' d' s' e' = go (decLt s' e) (decLt s e')
     where
-      go : Dec (s' < e) → Dec (s < e') → load day (given day done s e n' d') s' e' * d ≤ n * len day (given day done s e n' d') s' e'
+      go : Dec (s' < e) → Dec (s < e') → load day (giveRate day done s e n' d') s' e' * d ≤ n * len day (giveRate day done s e n' d') s' e'
       go (yes m) (yes m') = meets n' d' s' e' m m'
       go (yes m) (no m') = apart n' d' s' e' (inr (omega (arith, m')))
       go (no m) b = apart n' d' s' e' (inl (omega (arith, m)))

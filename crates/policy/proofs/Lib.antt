@@ -16,3 +16,5 @@ pub mod Filling
 pub mod Sweeping
 pub mod Leading
 pub mod Turning
+pub mod Rows
+pub mod Answering

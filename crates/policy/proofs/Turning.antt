@@ -18,7 +18,7 @@ use Rattle.fractions.proofs.LowestTerms.{lowestD-positive}
 use Rattle.policy.specs.declared.densest.Leader.{Leader}
 use Rattle.policy.specs.Windows.{Windows, Given, none, rate, unassigned, inside, onlyIf, choose, assign, sum}
 use Rattle.policy.specs.Points.{pointsOf, packetsOf, epochsOf}
-use Rattle.policy.specs.Rounds.{Day, Progress, atFirst, load, len, Interval, nowhere, between, pick, given, taken, roundOf, round, after, dayOf, outcomeOf}
+use Rattle.policy.specs.Rounds.{Day, Progress, atFirst, load, len, Interval, nowhere, between, pick, giveRate, taken, roundOf, round, after, dayOf, outcomeOf}
 use Rattle.policy.specs.Steps.{Spanned, neighbours, leftOver, Left, fresh, chosen, Shared, PlaceIs, Placed, Tally, tallied, countedFrom, led, givenOf, SetUp, Rated, Ready, NoGifts, LeaderIs, Taken}
 use Rattle.policy.proofs.Sums.{sum-at, sum-some}
 use Rattle.policy.proofs.Left.{onlyIf-some}
@@ -36,7 +36,7 @@ unfolding givenOf unassigned
 unassigned-is n zero = sym (eq-eqb 0 0 refl)
 unassigned-is n (suc d) = sym (ne-eqb (suc d) 0 (λ e. omega (arith, e)))
 
-given-rate : (n d : ℕ) → 0 < d → givenOf n d ≡ rate n d
+pub given-rate : (n d : ℕ) → 0 < d → givenOf n d ≡ rate n d
 unfolding givenOf
 given-rate n zero h = absurd (omega arith)
 given-rate n (suc d) h = refl
@@ -305,12 +305,12 @@ module _ (count : ℕ) (records : List ℕ) (accepted : Accepted count records) 
 
       -- the round takes the leader
       round-taken : 0 < leader .load
-          → after day (suc r) ≡ given day done (leader .start) (leader .end) (lowestN (leader .load) (leader .len)) (lowestD (leader .load) (leader .len))
+          → after day (suc r) ≡ giveRate day done (leader .start) (leader .end) (lowestN (leader .load) (leader .len)) (lowestD (leader .load) (leader .len))
       round-taken h =
           let x = picked h in
           unfold after round roundOf taken in
           (ap (roundOf day done) (x .0) ∙
-          (λ i. given day done (leader .start) (leader .end) (lowestN (sym (x .1) i) (sym (x .2) i)) (lowestD (sym (x .1) i) (sym (x .2) i))))
+          (λ i. giveRate day done (leader .start) (leader .end) (lowestN (sym (x .1) i) (sym (x .2) i)) (lowestD (sym (x .1) i) (sym (x .2) i))))
 
       -- the shares after it stand for what the round gives
       pub turn : 0 < leader .load → (packet-n' packet-d' epoch-n' epoch-d' : List ℕ)
@@ -324,9 +324,9 @@ module _ (count : ℕ) (records : List ℕ) (accepted : Accepted count records) 
           same-count : pred n ≡ pred (length P)
           same-count = ap pred (setup .n-is)
 
-          next : Agrees day (given day done (leader .start) (leader .end) (lowestN (leader .load) (leader .len)) (lowestD (leader .load) (leader .len))) pn pd en ed
+          next : Agrees day (giveRate day done (leader .start) (leader .end) (lowestN (leader .load) (leader .len)) (lowestD (leader .load) (leader .len))) pn pd en ed
           next =
-              unfold given dayOf packetsOf epochsOf in
+              unfold giveRate dayOf packetsOf epochsOf in
               record {
                 packets = λ i q.
                     gift-assigns (packetsOf count records) (done .packet) from till packet-n packet-d pn pd (leader .start) (leader .end) _ _ i q D-some
@@ -339,7 +339,7 @@ module _ (count : ℕ) (records : List ℕ) (accepted : Accepted count records) 
 
       -- and it counts
       pub turn-counts : 0 < leader .load → after day r .rounds ≡ r → after day (r + 1) .rounds ≡ r + 1
-      turn-counts h c = rw add-one (ap (λ (x : Progress). x .rounds) (round-taken h) ∙ unfold given in ap suc c)
+      turn-counts h c = rw add-one (ap (λ (x : Progress). x .rounds) (round-taken h) ∙ unfold giveRate in ap suc c)
 
       -- without a leader the rounds are over
       pub over : leader .load ≡ 0 → r ≤ count → after day count ≡ done

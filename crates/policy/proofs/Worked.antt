@@ -3,13 +3,13 @@ use Prim.Native.Nat.{ℕ, zero, suc, pred}
 use mathlib.Core.Path.{_≡_, refl}
 use mathlib.Core.List.{List, [], _∷_}
 use Rattle.packets.specs.Limits.{airBytes}
-use Rattle.packets.specs.Outcome.{Outcome, gives, refuses, _when_else_, _then_}
-use Rattle.packets.specs.Records.{sizeOf, arrivalOf, deadlineOf, recordTest, recordTests, memoryTests}
+use Rattle.packets.specs.Outcome.{Outcome, gives, refuses, _when_else_, _then_, inOrder}
+use Rattle.packets.specs.Records.{sizeOf, arrivalOf, deadlineOf, recordTest, recordAt, recordTests, memoryTests}
 use Rattle.fractions.specs.Fraction.{euclid, gcd, lowestN, lowestD}
 use Rattle.policy.specs.Windows.{assign, choose, inside, left, onlyIf, sum, unassigned}
 use Rattle.policy.specs.Points.{epochsOf, packetsOf, pointsOf, withPoint}
-use Rattle.policy.specs.Rounds.{after, atFirst, beats, bestFrom, bestOf, better, dayOf, given, leads, len, load, outcomeOf, pick, round, roundOf, taken}
-use Rattle.policy.specs.Answer.{epochCount, epochRows, ratesAfter, ratesOf, ratesOutcome, shownD, shownN, written}
+use Rattle.policy.specs.Rounds.{after, atFirst, beats, bestFrom, bestOf, better, dayOf, giveRate, leads, len, load, outcomeOf, pick, round, roundOf, taken}
+use Rattle.policy.specs.Answer.{epochCount, epochRows, ratesAfter, ratesOf, ratesOutcome, shownD, shownN}
 
 -- a list, what its call gives with room for `room` numbers, and the rows that are written
 record Case : Type 0 where
@@ -78,5 +78,5 @@ F =
     }
 
 worked : Holds A × Holds C × Holds D × Holds E × Holds F
-unfolding Holds airBytes _when_else_ _then_ sizeOf arrivalOf deadlineOf recordTest recordTests memoryTests euclid gcd lowestN lowestD assign choose inside left onlyIf sum unassigned epochsOf packetsOf pointsOf withPoint after atFirst beats bestFrom bestOf better dayOf given leads len load outcomeOf pick round roundOf taken epochCount epochRows ratesOf ratesOutcome shownD shownN
+unfolding Holds airBytes _when_else_ _then_ inOrder recordAt sizeOf arrivalOf deadlineOf recordTest recordTests memoryTests euclid gcd lowestN lowestD assign choose inside left onlyIf sum unassigned epochsOf packetsOf pointsOf withPoint after atFirst beats bestFrom bestOf better dayOf giveRate leads len load outcomeOf pick round roundOf taken epochCount epochRows ratesOf ratesOutcome shownD shownN
 worked = ((refl, refl), (refl, refl), (refl, refl), (refl, refl), (refl, refl))

@@ -1,13 +1,16 @@
 -- What the call for the rates of all epochs gives, and what it writes (document 01, "Epochs and rates" and "Refusal numbers and their order").
 -- Assumes nothing.
 use Prim.Native.Nat.{ℕ, zero, suc, _*_}
+use mathlib.Core.Path.{_≡_}
 use mathlib.Core.List.{List, [], _∷_, _++_}
 use lib.ListN.{length, getD, drop}
 use lib.Dec.{ltb}
-use Rattle.packets.specs.Outcome.{Outcome, gives, refuses, _when_else_, _then_, refusalOf}
+use Rattle.packets.specs.Outcome.{Outcome, gives, refuses, _when_else_, _then_, _given_else_, refusalOf}
 use Rattle.packets.specs.Records.{memoryTests}
 use Rattle.policy.specs.declared.RatesAnswer.{RatesAnswer}
 use Rattle.policy.specs.declared.RatesAnswer.the-variants.{Rated, Refused}
+use Rattle.policy.specs.declared.EpochRate.{EpochRate}
+use Rattle.policy.specs.declared.EpochRate.the-variants.{Silent, Carries}
 use Rattle.policy.specs.Windows.{Given, none, rate}
 use Rattle.policy.specs.Points.{pointsOf, epochsOf}
 use Rattle.policy.specs.Rounds.{outcomeOf}
@@ -16,6 +19,11 @@ use Rattle.policy.specs.Rounds.{outcomeOf}
 abbrev pub ratesAnswerOf : RatesAnswer → Outcome
 ratesAnswerOf (Rated epochs rounds) = gives (epochs ∷ rounds ∷ [])
 ratesAnswerOf (Refused refusal) = refusalOf refusal
+
+-- what an epoch was given: nothing where it is silent, else its rate
+abbrev pub epochRateOf : EpochRate → Given
+epochRateOf Silent = none
+epochRateOf (Carries carried) = rate (carried .n) (carried .d)
 
 -- the numbers that are written for an epoch: its start (seconds), N and D (bytes per second)
 abbrev pub epochNumbers : ℕ
@@ -33,9 +41,9 @@ shownD (rate n d) = d
 
 -- start, N and D of the first n epochs, in time order
 unfoldable pub epochRows : List ℕ → (ℕ → Given) → ℕ → List ℕ
-epochRows points given zero = []
-epochRows points given (suc n) =
-    epochRows points given n ++ (getD points n 0 ∷ shownN (given n) ∷ shownD (given n) ∷ [])
+epochRows points has zero = []
+epochRows points has (suc n) =
+    epochRows points has n ++ (getD points n 0 ∷ shownN (has n) ∷ shownD (has n) ∷ [])
 
 -- the number of epochs of a list
 unfoldable pub epochCount : ℕ → List ℕ → ℕ
@@ -52,11 +60,15 @@ ratesOutcome count records room =
     refuses 8 0 when ltb room (epochNumbers * epochCount count records) else
     gives (epochCount count records ∷ outcomeOf count records .rounds ∷ [])
 
--- what is written stands at the front of what was lent; a refusal writes nothing
-unfoldable pub written : Outcome → List ℕ → List ℕ → List ℕ
-written (gives values) rows lent = rows ++ drop (length rows) lent
-written (refuses number place) rows lent = lent
+-- the rows stand at the front of what was lent, and the rest stays
+unfoldable pub overwritten : List ℕ → List ℕ → List ℕ
+overwritten rows lent = rows ++ drop (length rows) lent
 
--- the lent room at the end of the call
+-- the lent room at the end of the call: a refusal writes nothing
 unfoldable pub ratesAfter : ℕ → List ℕ → List ℕ → List ℕ
-ratesAfter count records lent = written (ratesOutcome count records (length lent)) (ratesOf count records) lent
+ratesAfter count records lent = overwritten (ratesOf count records) lent given ratesOutcome count records (length lent) else lent
+
+-- what the call promises: its answer, and what the lent room holds at the end
+pub record EpochsRated (count : ℕ) (records lent : List ℕ) (answer : RatesAnswer) (exit : List ℕ) : Type 0 where
+  pub answer-is : ratesAnswerOf answer ≡ ratesOutcome count records (length lent)
+  pub exit-is : exit ≡ ratesAfter count records lent

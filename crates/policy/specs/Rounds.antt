@@ -72,8 +72,8 @@ unfoldable pub pick : Day → Progress → Interval
 pick day done = bestOf day done (day .packets .count)
 
 -- one round more: [s, e)'s unassigned packets and epochs are given N/D
-unfoldable pub given : Day → Progress → ℕ → ℕ → ℕ → ℕ → Progress
-given day done s e n d =
+unfoldable pub giveRate : Day → Progress → ℕ → ℕ → ℕ → ℕ → Progress
+giveRate day done s e n d =
     record {
       packet = assign (day .packets) s e n d (done .packet);
       epoch = assign (day .epochs) s e n d (done .epoch);
@@ -83,7 +83,7 @@ given day done s e n d =
 -- [s, e) is taken: what it holds is given its load over its length in lowest terms
 unfoldable pub taken : Day → Progress → ℕ → ℕ → Progress
 taken day done s e =
-    given day done s e
+    giveRate day done s e
     (lowestN (load day done s e) (len day done s e))
     (lowestD (load day done s e) (len day done s e))
 

@@ -135,6 +135,10 @@ unfoldable pub givenOf : ℕ → ℕ → Given
 givenOf n zero = none
 givenOf n (suc d) = rate n (suc d)
 
+-- what number i was given, by its N and its D
+unfoldable pub givenIn : List ℕ → List ℕ → ℕ → Given
+givenIn n d i = givenOf (getD n i 0) (getD d i 0)
+
 -- what the rounds work on stands in these arrays
 pub record SetUp (count : ℕ) (records : List ℕ) (n : ℕ) (points from till bytes ends seconds place marks : List ℕ) : Type 0 where
   pub points-are : take n points ≡ pointsOf count records

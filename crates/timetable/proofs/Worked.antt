@@ -8,7 +8,7 @@ use Rattle.packets.specs.Records.{sizeOf, arrivalOf, deadlineOf}
 use Rattle.fractions.specs.Fraction.{euclid, gcd, lowestN, lowestD}
 use Rattle.policy.specs.Windows.{assign, choose, inside, left, onlyIf, sum, unassigned}
 use Rattle.policy.specs.Points.{epochsOf, packetsOf, pointsOf, withPoint}
-use Rattle.policy.specs.Rounds.{after, atFirst, beats, bestFrom, bestOf, better, dayOf, given, leads, len, load, outcomeOf, pick, round, roundOf, taken}
+use Rattle.policy.specs.Rounds.{after, atFirst, beats, bestFrom, bestOf, better, dayOf, giveRate, leads, len, load, outcomeOf, pick, round, roundOf, taken}
 use Rattle.policy.specs.Carried.{carries, inUnits, priceOf, priced}
 use Rattle.policy.specs.Answer.{epochCount, shownD}
 use Rattle.timetable.specs.Setting.{setting}
@@ -81,11 +81,11 @@ F =
     }
 
 worked : Holds A × Holds C × Holds D × Holds E × Holds F
-unfolding Holds airBytes sizeOf arrivalOf deadlineOf euclid gcd lowestN lowestD assign choose inside left onlyIf sum unassigned epochsOf packetsOf pointsOf withPoint after atFirst beats bestFrom bestOf better dayOf given leads len load outcomeOf pick round roundOf taken carries inUnits priceOf priced epochCount shownD setting begun candidate earliest eligible entriesOf filled less nextIn numbersOf sent sheetAt sooner turnOf turns unitsIn unitsOf costOf radioCost
+unfolding Holds airBytes sizeOf arrivalOf deadlineOf euclid gcd lowestN lowestD assign choose inside left onlyIf sum unassigned epochsOf packetsOf pointsOf withPoint after atFirst beats bestFrom bestOf better dayOf giveRate leads len load outcomeOf pick round roundOf taken carries inUnits priceOf priced epochCount shownD setting begun candidate earliest eligible entriesOf filled less nextIn numbersOf sent sheetAt sooner turnOf turns unitsIn unitsOf costOf radioCost
 worked = ((refl, refl), (refl, refl), (refl, refl), (refl, refl), (refl, refl))
 
 -- the exact cost of A is 2281/4
 exact-A : (lowestN (exactCostN (dayOf 3 (A .records)) (outcomeOf 3 (A .records))) (exactCostD (dayOf 3 (A .records)) (outcomeOf 3 (A .records))) ≡ 2281)
     × (lowestD (exactCostN (dayOf 3 (A .records)) (outcomeOf 3 (A .records))) (exactCostD (dayOf 3 (A .records)) (outcomeOf 3 (A .records))) ≡ 4)
-unfolding airBytes sizeOf arrivalOf deadlineOf euclid gcd lowestN lowestD assign choose inside left onlyIf sum unassigned epochsOf packetsOf pointsOf withPoint after atFirst beats bestFrom bestOf better dayOf given leads len load outcomeOf pick round roundOf taken inUnits priceOf priced shownD commonD exactCostD exactCostIn exactCostN product
+unfolding airBytes sizeOf arrivalOf deadlineOf euclid gcd lowestN lowestD assign choose inside left onlyIf sum unassigned epochsOf packetsOf pointsOf withPoint after atFirst beats bestFrom bestOf better dayOf giveRate leads len load outcomeOf pick round roundOf taken inUnits priceOf priced shownD commonD exactCostD exactCostIn exactCostN product
 exact-A = (refl, refl)

@@ -6,7 +6,7 @@ use borrow.Author.Tests.{lt-ltb, le-ltb}
 use Rattle.packets.specs.Outcome.{gives, _when_else_}
 use Rattle.packets.specs.Records.{recordTests}
 use Rattle.packets.specs.List.{wireTests, countOn, recordsOn, roomTest}
-use Rattle.packets.proofs.Records.{verdict-refuses, verdict-passes}
+use Rattle.packets.proofs.Outcomes.{verdict-refuses, verdict-passes}
 use Rattle.packets.proofs.Lists.{Whole, wire-whole, list-bytes-is, records-are, wire-refuses, records-refuse, records-pass}
 use borrow.Author.Needs.{needs}
 use Rattle.packets.proofs.list.judge_list.Statement.{statement}

@@ -6,7 +6,6 @@ use native.Mathlib.Omega.{arith}
 use lib.ListN.{length}
 use Rattle.packets.specs.Outcome.{gives, listAnswerOf, refusalOf}
 use Rattle.packets.specs.List.{countOn, readOutcome, restAfter, recordsAfter}
-use Rattle.packets.proofs.Records.{refused-leaves}
 use Rattle.packets.proofs.Lists.{Told, read-told, read-done, read-undone, records-total, record-narrow}
 use borrow.Author.Needs.{needs}
 use Rattle.packets.proofs.list.read_list.Statement.{statement}

@@ -6,7 +6,8 @@ use Rattle.packets.specs.Outcome.{gives}
 use Rattle.packets.specs.List.{listBytes}
 use Rattle.packets.specs.declared.refusal.Refusal.the-variants.{NoRoom}
 use Rattle.packets.specs.Records.{memoryTests, Accepted}
-use Rattle.packets.proofs.Records.{verdict-refuses, verdict-passes, memory-accepted}
+use Rattle.packets.proofs.Outcomes.{verdict-refuses, verdict-passes}
+use Rattle.packets.proofs.Records.{memory-accepted}
 use Rattle.packets.proofs.Lists.{memory-refuses, room-refuses, write-gives, write-done, write-undone, list-total, count-narrow, record-narrow}
 use borrow.Author.Needs.{needs}
 use Rattle.packets.proofs.list.write_list.Statement.{statement}

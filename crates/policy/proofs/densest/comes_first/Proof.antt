@@ -1,3 +1,4 @@
+-- `policy::densest::comes_first` meets its contract: the cross products decide, then the starts, then the ends. Assumes nothing.
 use Rattle.policy.proofs.Order.{tied}
 use Rattle.policy.proofs.Sweeping.{figuresOf}
 use Rattle.policy.proofs.Order.{ahead-before, behind-before}

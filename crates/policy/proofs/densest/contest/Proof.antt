@@ -1,3 +1,4 @@
+-- `policy::densest::contest` meets its contract: each return goes by the tests that led there. Assumes nothing.
 use Rattle.policy.proofs.Sweeping.{unmarked-stays, empty-stays, first-leads, ahead-leads, behind-stays}
 use mathlib.Core.Path.{sym, _∙_}
 use Rattle.policy.proofs.densest.contest.Statement.{statement}

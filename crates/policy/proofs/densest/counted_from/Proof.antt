@@ -1,3 +1,4 @@
+-- `policy::densest::counted_from` meets its contract: each return goes by the test that led there. Assumes nothing.
 use Rattle.policy.specs.Steps.{countedFrom}
 use Rattle.policy.specs.Windows.{onlyIf}
 use borrow.Author.Tests.{lt-leb, le-leb}

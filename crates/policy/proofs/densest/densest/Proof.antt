@@ -1,3 +1,4 @@
+-- `policy::densest::densest` meets its contract. The invariant: the leader is that of the first i arrivals, and its cross products fit. Assumes nothing.
 use lib.ListN.{getD}
 use native.Mathlib.Omega.{arith}
 use Prim.Native.Nat.{ℕ, _-_, _≤_}

@@ -1,3 +1,4 @@
+-- `policy::densest::grow` meets its contract: each return goes by the test that led there. Assumes nothing.
 use Rattle.policy.specs.Steps.{grown}
 use Rattle.policy.specs.Windows.{onlyIf}
 use borrow.Author.Tests.{lt-leb, le-leb}

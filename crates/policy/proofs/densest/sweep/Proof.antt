@@ -1,3 +1,4 @@
+-- `policy::densest::sweep` meets its contract. The invariant, `SweptSoFar`: the leader, the load and the length are those up to place b, and small. Assumes nothing.
 use Prim.Native.Nat.{_+_}
 use mathlib.Core.Path.{ap, _∙_}
 use lib.ListN.{getD}

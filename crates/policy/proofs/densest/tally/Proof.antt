@@ -1,3 +1,4 @@
+-- `policy::densest::tally` meets its contract. The invariant: each place has the tally of the first i. Assumes nothing.
 use Prim.Native.Nat.{_<_}
 use lib.ListN.{getD, getD-replicate}
 use Rattle.policy.proofs.Sweeping.{due-most, tallied-last}

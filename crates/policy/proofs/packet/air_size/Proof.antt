@@ -1,3 +1,4 @@
+-- `policy::packet::air_size` meets its contract by what `on_the_air` gives. Assumes nothing.
 use Rattle.packets.specs.Records.{sizeOf}
 use borrow.Author.Needs.{needs}
 use Rattle.policy.proofs.packet.air_size.Statement.{statement}

@@ -1,3 +1,4 @@
+-- `policy::packet::arrival` meets its contract by the definition. Assumes nothing.
 use Rattle.packets.specs.Records.{arrivalOf}
 use mathlib.Core.Path.{refl}
 use borrow.Author.Needs.{needs}

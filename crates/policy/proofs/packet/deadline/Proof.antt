@@ -1,3 +1,4 @@
+-- `policy::packet::deadline` meets its contract by the definition. Assumes nothing.
 use Rattle.packets.specs.Records.{deadlineOf}
 use mathlib.Core.Path.{refl}
 use borrow.Author.Needs.{needs}

@@ -1,3 +1,4 @@
+-- `policy::packet::on_the_air` meets its contract by the definition. Assumes nothing.
 use Rattle.packets.specs.Limits.{airBytes}
 use mathlib.Core.Path.{refl}
 use Rattle.policy.proofs.packet.on_the_air.Statement.{statement}

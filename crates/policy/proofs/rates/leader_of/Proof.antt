@@ -1,3 +1,4 @@
+-- `policy::rates::leader_of` meets its contract: what is left is no more than the weights, so that the sums fit. Assumes nothing.
 use Rattle.policy.proofs.Turning.{left-most, left-one-less}
 use native.Mathlib.Omega.{arith}
 use Rattle.policy.proofs.rates.leader_of.Statement.{statement}

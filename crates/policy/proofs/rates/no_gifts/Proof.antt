@@ -1,3 +1,4 @@
+-- `policy::rates::no_gifts` meets its contract: every D is 0. Assumes nothing.
 use lib.ListN.{getD-replicate}
 use Rattle.policy.proofs.rates.no_gifts.Statement.{statement}
 use Rattle.policy.proofs.rates.no_gifts.Tie as tie

@@ -1,3 +1,4 @@
+-- `policy::rates::set_up` meets its contract: each deadline is a point, so that its place is within the arrays. Assumes nothing.
 use mathlib.Core.Path.{_≡_}
 use Prim.Native.Nat.{suc}
 use lib.ListN.{getD, replicate, getD-replicate}

@@ -1,3 +1,4 @@
+-- `policy::rates::take` meets its contract by what `lowest` and `give` leave. Assumes nothing.
 use Rattle.policy.proofs.Turning.{shared-at, shared-one-less}
 use native.Mathlib.Omega.{arith}
 use Rattle.policy.proofs.rates.take.Statement.{statement}

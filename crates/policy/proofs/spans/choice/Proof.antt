@@ -1,3 +1,4 @@
+-- `policy::spans::choice` meets its contract: each return goes by the test that led there. Assumes nothing.
 use mathlib.Core.Path.{refl}
 use Rattle.policy.specs.Steps.{chosen}
 use Rattle.policy.specs.Windows.{choose}

@@ -1,3 +1,4 @@
+-- `policy::spans::epoch_spans` meets its contract. The invariant: the ends and the seconds of the first k epochs are filled in. Assumes nothing.
 use native.Mathlib.Numerals.{add-one}
 use lib.ListN.{getD}
 use native.Mathlib.Omega.{arith}

@@ -1,3 +1,4 @@
+-- `policy::spans::give` meets its contract. The invariant, `Halfway`: the first i have what the round leaves them, the others what they had. Assumes nothing.
 use Rattle.policy.proofs.Filling.{gift}
 use lib.ListN.{getD}
 use native.Mathlib.Omega.{arith}

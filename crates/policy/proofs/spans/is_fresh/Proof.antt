@@ -1,3 +1,4 @@
+-- `policy::spans::is_fresh` meets its contract: each return goes by the tests that led there. Assumes nothing.
 use borrow.Author.Tests.{eq-eqb, ne-eqb, lt-leb, le-leb}
 use mathlib.Core.Path.{refl}
 use Rattle.policy.specs.Steps.{fresh}

@@ -1,3 +1,4 @@
+-- `policy::spans::left_of` meets its contract: each return goes by the test that led there. Assumes nothing.
 use borrow.Author.Tests.{eq-eqb, ne-eqb}
 use mathlib.Core.Path.{refl}
 use Rattle.policy.specs.Steps.{leftOver}

@@ -1,3 +1,4 @@
+-- `policy::spans::left_weights` meets its contract. The invariant: what is left of the first i weights is filled in. Assumes nothing.
 use lib.ListN.{getD}
 use native.Mathlib.Omega.{arith}
 use Prim.Native.Nat.{ℕ, _-_, _≤_}

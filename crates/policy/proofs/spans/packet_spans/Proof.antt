@@ -1,3 +1,4 @@
+-- `policy::spans::packet_spans` meets its contract. The invariant: the figures of the first i packets are filled in. Assumes nothing.
 use native.Mathlib.Omega.{arith}
 use Prim.Native.Nat.{ℕ, _-_, _≤_}
 use mathlib.Core.Path.{refl}
