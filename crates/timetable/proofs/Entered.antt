@@ -18,7 +18,7 @@ use Rattle.policy.proofs.Carry.{carries-is}
 use Rattle.timetable.specs.Setting.{setting}
 use Rattle.timetable.specs.Entries.{Entry, Sheet, eligible, unitsIn, unitsOf, less, sent, turns, begun, filled, sheetAt}
 use Rattle.timetable.specs.Right.{Each, Right, EndsBy, Ordered, unitsWhere, ofPacket, inEpoch}
-use Rattle.timetable.proofs.Turning.{less-same, less-other, unfinished, unfinished-most, unfinished-less, unfinished-ends, Stretch, turns-keep}
+use Rattle.timetable.proofs.Turning.{less-same, less-other, unfinished, unfinished-most, unfinished-less, unfinished-ends, unfinished-some, Stretch, turns-keep}
 use Rattle.timetable.proofs.NeverLate.{Rated, reached, full, all-sent}
 
 -- ## One entry more
@@ -188,6 +188,21 @@ module _ (day : Day) (rates : Progress) (r : Rated day rates) where
     still-past : Each (Past day (suc k)) (s .entries)
     still-past = each-map (λ e h. (h .0, omega (arith, h .1), h .2)) (s .entries) (old .past)
 
+    -- at the start of the epoch
+    starting : (n d : ℕ) (p : rates .epoch k ≡ rate n d) → Entering day rates k n d k-is p s (begun s)
+    starting n d p =
+        unfold begun in
+        record {
+          right = old .right;
+          past = still-past;
+          behind = each-map (λ e h. inl h) (s .entries) earlier;
+          ordered = old .ordered;
+          packet-units = old .packet-units;
+          epoch-units = units-none (day .epochs .from k) (s .entries) earlier;
+          other-units = λ t g. refl;
+          counted = inl (old .counted);
+        }
+
     -- the units of earlier epochs, and of this one
     by-epoch : (z : Sheet) → z .offset ≡ reached day rates r k → unitsWhere (inEpoch (day .epochs .from k)) (z .entries) ≡ z .offset
         → ((t : ℕ) → (t ≡ day .epochs .from k → ⊥) → unitsWhere (inEpoch t) (z .entries) ≡ unitsWhere (inEpoch t) (s .entries))
@@ -216,7 +231,7 @@ module _ (day : Day) (rates : Progress) (r : Rated day rates) where
     next (rate n d) p w =
         let z =
         turns-keep day rates k n d (Entering day rates k n d k-is p s)
-        (λ z i y q inv. enters day rates k n d k-is p s z i y q inv) (day .packets .count) (begun s) start in
+        (λ z i y q inv. enters day rates k n d k-is p s z i y q inv) (day .packets .count) (begun s) (starting n d p) in
         record {
           right = z .right;
           past = z .past;
@@ -226,20 +241,6 @@ module _ (day : Day) (rates : Progress) (r : Rated day rates) where
           counted = most (turns day rates k n d (day .packets .count) (begun s)) (z .counted);
         }
       where
-        start : Entering day rates k n d k-is p s (begun s)
-        start =
-            unfold begun in
-            record {
-              right = old .right;
-              past = still-past;
-              behind = each-map (λ e h. inl h) (s .entries) earlier;
-              ordered = old .ordered;
-              packet-units = old .packet-units;
-              epoch-units = units-none (day .epochs .from k) (s .entries) earlier;
-              other-units = λ t g. refl;
-              counted = inl (old .counted);
-            }
-
         most : (z : Sheet)
             → (length (z .entries) + unfinished (day .packets .count) (z .unsent) ≤ day .packets .count + k)
             ⊎ ((z .offset ≡ unitsIn day k n) × (length (z .entries) + unfinished (day .packets .count) (z .unsent) ≤ suc (day .packets .count + k)))
@@ -259,3 +260,29 @@ module _ (day : Day) (rates : Progress) (r : Rated day rates) where
         counted = omega (arith, unfinished-most (day .packets .count) (unitsOf day rates));
       }
   entered (suc k) h = next k h (sheetAt day rates k) (entered k (omega arith)) (rates .epoch k) refl refl
+
+  -- before a stretch, the entries are fewer than packets and epochs
+  pub room-for-one : (k n d : ℕ) → k < day .epochs .count → rates .epoch k ≡ rate n d → (t i y : ℕ)
+      → Stretch day rates k n d (turns day rates k n d t (begun (sheetAt day rates k))) i y
+      → length (turns day rates k n d t (begun (sheetAt day rates k)) .entries) < day .packets .count + k
+  room-for-one k n d k-is p t i y q = go (turns day rates k n d t (begun (sheetAt day rates k))) q counting
+    where
+      old : Entered k (sheetAt day rates k)
+      old = entered k (omega arith)
+
+      counting : (length (turns day rates k n d t (begun (sheetAt day rates k)) .entries)
+          + unfinished (day .packets .count) (turns day rates k n d t (begun (sheetAt day rates k)) .unsent) ≤ day .packets .count + k)
+          ⊎ ((turns day rates k n d t (begun (sheetAt day rates k)) .offset ≡ unitsIn day k n)
+          × (length (turns day rates k n d t (begun (sheetAt day rates k)) .entries)
+          + unfinished (day .packets .count) (turns day rates k n d t (begun (sheetAt day rates k)) .unsent) ≤ suc (day .packets .count + k)))
+      counting =
+          turns-keep day rates k n d (Entering day rates k n d k-is p (sheetAt day rates k))
+          (λ z j w g inv. enters day rates k n d k-is p (sheetAt day rates k) z j w g inv) t (begun (sheetAt day rates k))
+          (starting k k-is (sheetAt day rates k) old n d p) .counted
+
+      go : (z : Sheet) → Stretch day rates k n d z i y
+          → (length (z .entries) + unfinished (day .packets .count) (z .unsent) ≤ day .packets .count + k)
+          ⊎ ((z .offset ≡ unitsIn day k n) × (length (z .entries) + unfinished (day .packets .count) (z .unsent) ≤ suc (day .packets .count + k)))
+          → length (z .entries) < day .packets .count + k
+      go z g (inl h) = omega (arith, h, unfinished-some (day .packets .count) (z .unsent) i (g .below) (omega (arith, g .some, g .has)))
+      go z g (inr h) = absurd (omega (arith, h .0, g .room))

@@ -7,3 +7,9 @@ pub mod Entered
 pub mod Settings
 pub mod Lists
 pub mod Costs
+pub mod Choosing
+pub mod Arrays
+pub mod Copying
+pub mod Filling
+pub mod Making
+pub mod Answering

@@ -171,24 +171,32 @@ module _ (day : Day) (rates : Progress) (k n d : ℕ) where
       go a (yes p) = inl (omega arith)
       go a (no p) = inr (omega (arith, p))
 
-  pub turn-is : (s : Sheet) → Turn s (turnOf day k n d s (nextIn day rates k n d s))
-  unfolding nextIn
-  turn-is s = go (ltb (s .offset) (unitsIn day k n)) refl
-    where
-      here : Choice
-      here = earliest (candidate day rates k n d (s .unsent)) (day .packets .till) (day .packets .count)
+  -- who is sent next, and for how long; nobody where the epoch is settled
+  pub data Next (s : Sheet) : Choice → Type 0 where
+    none-next : Settled s → Next s nobody
+    next-one : (i : ℕ) → Stretch s i (min (s .unsent i) (unitsIn day k n - s .offset)) → Next s (packet i)
 
-      found : (c : Choice) → s .offset < unitsIn day k n → Says (candidate day rates k n d (s .unsent)) (day .packets .till) (day .packets .count) c
-          → Turn s (turnOf day k n d s c)
-      found _ room (none-counts h) = unfold turnOf in rests (inr h)
-      found _ room (chosen i c) = unfold turnOf in goes i _ (length-of s i room c)
+  pub next-is : (s : Sheet) → Next s (nextIn day rates k n d s)
+  unfolding nextIn
+  next-is s = go (ltb (s .offset) (unitsIn day k n)) refl
+    where
+      found : (c : Choice) → s .offset < unitsIn day k n → Says (candidate day rates k n d (s .unsent)) (day .packets .till) (day .packets .count) c → Next s c
+      found _ room (none-counts h) = none-next (inr h)
+      found _ room (chosen i c) = next-one i (length-of s i room c)
 
       go : (b : Bool) → ltb (s .offset) (unitsIn day k n) ≡ b
-          → Turn s (turnOf day k n d s (choose b (earliest (candidate day rates k n d (s .unsent)) (day .packets .till) (day .packets .count)) nobody))
+          → Next s (choose b (earliest (candidate day rates k n d (s .unsent)) (day .packets .till) (day .packets .count)) nobody)
       go true p =
           unfold choose in
           found _ (ltb-true _ _ p) (earliest-says (candidate day rates k n d (s .unsent)) (day .packets .till) (day .packets .count))
-      go false p = unfold choose turnOf in rests (inl (ltb-false _ _ p))
+      go false p = unfold choose in none-next (inl (ltb-false _ _ p))
+
+  pub turn-is : (s : Sheet) → Turn s (turnOf day k n d s (nextIn day rates k n d s))
+  turn-is s = go (nextIn day rates k n d s) (next-is s)
+    where
+      go : (c : Choice) → Next s c → Turn s (turnOf day k n d s c)
+      go _ (none-next h) = unfold turnOf in rests h
+      go _ (next-one i p) = unfold turnOf in goes i _ p
 
   -- what every stretch keeps holds after any number of turns
   pub turns-keep : (Inv : Sheet → Type 0) → ((s : Sheet) (i y : ℕ) → Stretch s i y → Inv s → Inv (sent day k n d s i y))
