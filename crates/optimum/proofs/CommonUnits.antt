@@ -1,24 +1,28 @@
 -- A rival over a common denominator M: `y t i` of packet i in slot t, in units of 1/M byte. Each packet's units add up to its size times M, and the rival's
 -- cost is the slots in a second times the sum of the squares of what each slot sends, over M squared. The product of all denominators is such an M. Assumes nothing.
-use Prim.Native.Nat.{ℕ, zero, suc, _+_, _*_, _/_, _<_, _≤_, _∣_}
-use mathlib.Core.Path.{_≡_, refl, sym, ap, _∙_}
+use Prim.Native.Nat.{ℕ, _*_, _/_, _<_, _∣_}
+use mathlib.Core.Path.{_≡_, ap, _∙_}
 use native.Mathlib.Omega.{arith}
 use native.Mathlib.Nat.{dvd-trans, eq-of-mul-eq-mul-right, mul-div-cancel', mul-pos}
 use Rattle.policy.specs.Windows.{Windows, sum}
 use Rattle.policy.proofs.Sums.{sum-scale}
 use Rattle.timetable.specs.Costs.{product}
-use Rattle.optimum.specs.Rival.{Fraction, whole, plus, total, Equal, Outside, Rival, slotBytes, slotRate, slotCost, rivalCost}
+use Rattle.optimum.specs.Rival.{Fraction, total, Outside, Rival, slotBytes, slotRate, slotCost, rivalCost}
 use Rattle.optimum.proofs.Totals.{total-in, total-under, product-of, product-some}
 
 module _ (seconds : ℕ) (packets : Windows) (slots : ℕ) (bytes : ℕ → ℕ → Fraction) (M : ℕ) (y : ℕ → ℕ → ℕ)
     (units : (t i : ℕ) → t < slots * seconds → i < packets .count → bytes t i .over * M ≡ y t i * bytes t i .under)
   where
+    -- the bytes of a slot
+    pub slot-bytes-in : (t : ℕ) → t < slots * seconds
+        → slotBytes packets bytes t .over * M ≡ sum (packets .count) (y t) * slotBytes packets bytes t .under
+    unfolding slotBytes
+    slot-bytes-in t h = total-in M (packets .count) (bytes t) (y t) (λ i g. units t i h g)
+
     slot-in : (t : ℕ) → t < slots * seconds
         → slotCost packets slots bytes t .over * (M * M) ≡ sum (packets .count) (y t) * sum (packets .count) (y t) * slots * slotCost packets slots bytes t .under
-    unfolding slotCost slotRate slotBytes
-    slot-in t h =
-        let e = total-in M (packets .count) (bytes t) (y t) (λ i g. units t i h g) in
-        square (total (packets .count) (bytes t) .over) (total (packets .count) (bytes t) .under) (sum (packets .count) (y t)) e
+    unfolding slotCost slotRate
+    slot-in t h = square (slotBytes packets bytes t .over) (slotBytes packets bytes t .under) (sum (packets .count) (y t)) (slot-bytes-in t h)
       where
         square : (a b s : ℕ) → a * M ≡ s * b → a * slots * (a * slots) * (M * M) ≡ s * s * slots * (b * b * slots)
         square a b s e = omega (arith, ap (λ (x : ℕ). slots * slots * (a * M) * x) e, ap (λ (x : ℕ). slots * slots * x * (s * b)) e)

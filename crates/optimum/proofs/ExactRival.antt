@@ -5,31 +5,31 @@ use Prim.Native.Nat.{ℕ, zero, suc, _+_, _-_, _*_, _/_, _<_, _≤_, _∣_}
 use mathlib.Core.Path.{_≡_, refl, sym, ap, subst, _∙_}
 use mathlib.Core.Bool.{Bool, true, false}
 use mathlib.Core.List.{List, [], _∷_}
-use mathlib.Core.Logic.{_⊎_, inl, inr}
+use mathlib.Core.Logic.{inl, inr}
 use native.Mathlib.Omega.{arith}
 use native.Mathlib.Decide.{ℕ-discrete}
 use native.Mathlib.Nat.{eq-of-mul-eq-mul-right, le-antisymm, le-trans, mul-div-cancel', mul-le-mul, mul-le-mul-right, mul-pos}
 use lib.Dec.{eqb}
 use borrow.Author.Tests.{eq-eqb, eqb-true, ne-eqb}
-use Rattle.policy.specs.Windows.{Windows, Given, rate, onlyIf, choose, sum}
+use Rattle.policy.specs.Windows.{Given, rate, onlyIf, choose, sum}
 use Rattle.policy.specs.Rounds.{Day, Progress}
 use Rattle.policy.specs.Carried.{inUnits, priceOf}
 use Rattle.policy.specs.Answer.{shownD}
-use Rattle.policy.proofs.Sums.{sum-eq, sum-le, sum-none, sum-scale}
+use Rattle.policy.proofs.Sums.{sum-le, sum-none, sum-scale}
 use Rattle.policy.proofs.Facts.{assigned}
 use Rattle.timetable.specs.Entries.{Entry, unitsOf}
-use Rattle.timetable.specs.Right.{Each, Ordered, Right, Timetable, ofPacket, unitsWhere}
-use Rattle.timetable.specs.Costs.{commonD, exactCostD, exactCostN}
+use Rattle.timetable.specs.Right.{Each, Right, Timetable, ofPacket, unitsWhere}
+use Rattle.timetable.specs.Costs.{exactCostD, exactCostN}
 use Rattle.timetable.proofs.NeverLate.{Rated}
 use Rattle.timetable.proofs.Entered.{each-map}
 use Rattle.timetable.proofs.Costs.{common}
-use Rattle.optimum.specs.Rival.{Fraction, whole, plus, total, Equal, NotAbove, Outside, Rival, rivalCost}
+use Rattle.optimum.specs.Rival.{Fraction, whole, plus, total, Equal, Outside, Rival, slotRate, rivalCost}
 use Rattle.optimum.specs.Optimum.{allUnits, bytesIn, unitsAt}
-use Rattle.optimum.proofs.Totals.{total-in, total-under}
+use Rattle.optimum.proofs.Totals.{total-in}
 use Rattle.optimum.proofs.Slots.{rateAt, rate-at}
 use Rattle.optimum.proofs.CommonUnits.{cost-in}
-use Rattle.optimum.proofs.Rates.{Cut, L, L-some, by-slots, epochRate, no-rival-below, packet-common}
-use Rattle.optimum.proofs.Stretches.{after-none, all-seconds, before-none, each-zip, over, over-eq, over-le, over-sum, second-bound}
+use Rattle.optimum.proofs.Rates.{Cut, L, L-some, epochRate, exact-by-slots, no-rival-below, packet-common, same-rival-rates}
+use Rattle.optimum.proofs.Stretches.{after-none, all-seconds, before-none, over, over-eq, over-le, over-sum, second-bound}
 
 -- ## Bytes of entries over a common denominator
 
@@ -37,6 +37,7 @@ use Rattle.optimum.proofs.Stretches.{after-none, all-seconds, before-no
 abbrev part : ℕ → (Entry → ℕ) → ℕ → Entry → ℕ
 part L units i e = onlyIf (eqb (e .packet) i) (units e * (L / e .D))
 
+-- the bytes of packet i
 bytes-in : (L : ℕ) (units : Entry → ℕ) (entries : List Entry) (i : ℕ) → Each (λ e. e .D ∣ L) entries
     → bytesIn units entries i .over * L ≡ over (part L units i) entries * bytesIn units entries i .under
 unfolding bytesIn over
@@ -58,6 +59,7 @@ bytes-in L units (e ∷ entries) i h = go (eqb (e .packet) i) (bytes-in L units 
         )
     go false k = unfold choose onlyIf in omega (arith, k)
 
+-- .. have a denominator above zero
 pub bytes-under : (units : Entry → ℕ) (entries : List Entry) (i : ℕ) → Each (λ e. 0 < e .D) entries → 0 < bytesIn units entries i .under
 unfolding bytesIn
 bytes-under units [] i h = omega arith
@@ -67,6 +69,7 @@ bytes-under units (e ∷ entries) i h = mul-pos (go (eqb (e .packet) i)) (bytes-
     go true = unfold choose in h .0
     go false = unfold choose in omega arith
 
+-- .. and are none where no entry of the packet sends anything
 bytes-none : (units : Entry → ℕ) (entries : List Entry) (i : ℕ) → Each (λ e. eqb (e .packet) i ≡ true → units e ≡ 0) entries → bytesIn units entries i .over ≡ 0
 unfolding bytesIn
 bytes-none units [] i h = refl
@@ -230,7 +233,7 @@ module _ (day : Day) (rates : Progress) (r : Rated day rates) (entries : List En
           arith,
           cost-in seconds (day .packets) 1 bytes l (λ t i. over (part l (unitsAt t) i) entries) (λ t i h g. bytes-in l (unitsAt t) entries i multiples),
           mul-le-mul-right (rivalCost seconds (day .packets) 1 bytes .under) squares,
-          ap (λ (x : ℕ). x * rivalCost seconds (day .packets) 1 bytes .under) (by-slots day rates r seconds cut 1),
+          ap (λ (x : ℕ). x * rivalCost seconds (day .packets) 1 bytes .under) (exact-by-slots day rates r seconds cut 1),
         ))
         (no-rival-below day rates r seconds cut 1 bytes is-rival)
       where
@@ -240,3 +243,8 @@ module _ (day : Day) (rates : Progress) (r : Rated day rates) (entries : List En
         squares : sum (1 * seconds) (λ t. sends t * sends t)
             ≤ sum (1 * seconds) (λ t. rateAt (day .epochs) 1 (epochRate day rates r) t * rateAt (day .epochs) 1 (epochRate day rates r) t)
         squares = sum-le (1 * seconds) _ _ (λ t h. mul-le-mul (second-most t) (second-most t))
+
+    -- in every second it sends at the rate of the second's epoch
+    pub second-rates : (t : ℕ) → t < 1 * seconds
+        → Equal (slotRate (day .packets) 1 bytes t) (record { over = rateAt (day .epochs) 1 (epochRate day rates r) t; under = l })
+    second-rates = same-rival-rates day rates r seconds cut 1 bytes is-rival costs-exactly

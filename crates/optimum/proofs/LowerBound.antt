@@ -6,12 +6,13 @@
 -- slots, the products are at least 2 q M² E, since every byte is sent at a rate that is not below its packet's, and the second squares are q M² E. So the first squares, the
 -- other way's cost times q L² M², are not below q M² E. As much only if a = b in every slot.
 -- That is a bound and not yet a least cost: some way of sending must attain it.
--- What document 02 needs beyond it: (vi) nothing, where the plan equals the ordinary one; (vii) for the cap: that the highest rate of an epoch bounds some slot of
--- every rival, which is the round that gave it, its load over its length; (xi) a tangent of the table in place of the square, with K2 for the table's rise as the price; (xiii)
--- `same-rates`, with the exact timetable as the rival that attains the bound.
+-- What document 02 needs beyond it: (vi) for a walk that is proved by K1 and K2 of its own rates, `same-rates` with a rival that attains both bounds; (vii) that every
+-- rival sends the load of a round's interval inside it, so that some slot there is not below the round's rate, and that the exact timetable stays within its highest rate;
+-- (xi) a tangent of the table in place of the square, and K2 with the table's rise as the price; (xiii) `same-rates`, with the exact timetable as the rival that
+-- attains the bound.
 -- Assumes nothing.
-use Prim.Native.Nat.{ℕ, zero, suc, _+_, _*_, _<_, _≤_}
-use mathlib.Core.Path.{_≡_, refl, sym, ap, _∙_}
+use Prim.Native.Nat.{ℕ, _+_, _*_, _<_, _≤_}
+use mathlib.Core.Path.{_≡_, ap, _∙_}
 use mathlib.Core.Logic.{_⊎_, inl, inr}
 use native.Mathlib.Omega.{arith}
 use native.Mathlib.Nat.{le-of-mul-le-mul-left, mul-le-mul-left, mul-le-mul-right}

@@ -1,14 +1,12 @@
--- What a finished run of rounds leaves is what the lower bound asks for, over the common denominator L of the epochs' rates: every packet's rate has an epoch that
--- carries it, so L serves the packets too; K2 says that packets and epochs cost the same; K1 that a slot inside a packet's window has a rate that is not below
--- the packet's. So no rival costs less. Assumes nothing.
-use Prim.Native.Nat.{ℕ, zero, suc, _+_, _-_, _*_, _/_, _<_, _≤_, _∣_}
+-- What a finished run of rounds leaves, over the common denominator L of the epochs' rates, meets the conditions under which no rival costs less. Every packet's rate has
+-- an epoch that carries it, so L serves the packets too. Assumes nothing.
+use Prim.Native.Nat.{ℕ, _*_, _<_, _≤_, _∣_}
 use mathlib.Core.Path.{_≡_, refl, sym, ap, subst, subst₂, _∙_}
-use mathlib.Core.Bool.{Bool, true, false}
+use mathlib.Core.Bool.{Bool, true}
 use mathlib.Core.Logic.{_⊎_, inl, inr}
 use native.Mathlib.Omega.{arith}
-use native.Mathlib.Decide.{decLe, decLt}
-use native.Mathlib.Nat.{le-trans, le-of-mul-le-mul-right, mul-div-cancel', mul-le-mul-left, mul-le-mul-right, mul-pos}
-use Rattle.policy.specs.Windows.{Windows, Given, none, rate, onlyIf, sum}
+use native.Mathlib.Nat.{dvd-mul-left, pos-of-dvd-of-pos, le-trans, le-of-mul-le-mul-right, mul-div-cancel', mul-le-mul-left, mul-le-mul-right, mul-pos}
+use Rattle.policy.specs.Windows.{Given, none, rate, onlyIf, sum}
 use Rattle.policy.specs.Rounds.{Day, Progress}
 use Rattle.policy.specs.Carried.{carries, carriedInAll, inUnits, priceOf, priced}
 use Rattle.policy.specs.Answer.{shownD}
@@ -16,14 +14,13 @@ use Rattle.policy.proofs.Sums.{sum-at, sum-eq, sum-some}
 use Rattle.policy.proofs.Left.{onlyIf-some}
 use Rattle.policy.proofs.Carry.{carries-is, is-carries}
 use Rattle.policy.proofs.Facts.{AtLeast, assigned}
-use Rattle.timetable.specs.Costs.{commonD, exactCostD, exactCostIn, exactCostN, product}
+use Rattle.timetable.specs.Costs.{commonD, exactCostD, exactCostIn, exactCostN}
 use Rattle.timetable.proofs.NeverLate.{Rated}
 use Rattle.timetable.proofs.Costs.{common}
-use Rattle.optimum.specs.Rival.{Fraction, NotAbove, Rival, rivalCost}
-use Rattle.optimum.proofs.LowerBound.{lower-bound}
+use Rattle.optimum.specs.Rival.{Fraction, Equal, NotAbove, Rival, slotRate, rivalCost}
 use Rattle.optimum.proofs.Totals.{product-some}
-use Rattle.optimum.proofs.Slots.{rateAt, rate-at, slot-squares}
-use Rattle.optimum.proofs.CommonUnits.{denominator, denominator-some, sent, sent-units, sent-outside, sent-whole, cost-in}
+use Rattle.optimum.proofs.Slots.{rateAt}
+use Rattle.optimum.proofs.NoCheaper.{Conditions, by-slots, no-cheaper, same-slot-rates}
 
 -- the epochs end by the last second of the day, and each slot of a packet's window lies in one of them
 pub record Cut (seconds : ℕ) (day : Day) : Type 0 where
@@ -57,14 +54,10 @@ module _ (day : Day) (rates : Progress) (r : Rated day rates) where
           term : {b : Bool} → b ≡ true → 0 < onlyIf b (day .packets .weight i)
           term e = rw e (unfold onlyIf in r .proper .some-bytes i h)
 
-      positive : (a b : ℕ) → 0 < a * b → 0 < b
-      positive a zero q = absurd (omega arith)
-      positive a (suc b) q = omega arith
-
       seconds : 0 < sum (day .epochs .count) (λ k. onlyIf (carries (rates .epoch k) n d) (day .epochs .weight k))
       seconds =
           unfold carriedInAll in
-          positive n _
+          pos-of-dvd-of-pos (dvd-mul-left _ n)
           (subst (λ (x : ℕ). 0 < x) (r .facts .H-all n d) (mul-pos bytes (r .facts .packet-rate i n d h p .d-some)))
 
       go : (k : ℕ) × (k < day .epochs .count) × (0 < onlyIf (carries (rates .epoch k) n d) (day .epochs .weight k))
@@ -121,29 +114,24 @@ module _ (day : Day) (rates : Progress) (r : Rated day rates) where
               (mul-pos (r .facts .packet-rate i n d h p .d-some) (r .facts .epoch-rate k (s .rate-n) (s .rate-d) g (s .given) .d-some)))
 
   module _ (seconds : ℕ) (cut : Cut seconds day) where
-    -- the exact cost by slots
-    pub by-slots : (q : ℕ)
-        → sum (q * seconds) (λ t. rateAt (day .epochs) q epochRate t * rateAt (day .epochs) q epochRate t) ≡ q * exactCostN day rates
-    by-slots q = slot-squares (day .epochs) q seconds epochRate (r .rising) (r .seconds) (cut .today) ∙ ap (λ (x : ℕ). q * x) by-epochs
-
-    -- a slot inside a packet's window has a rate that is not below the packet's
-    window-rate : (q t i : ℕ) → i < day .packets .count → q * day .packets .from i ≤ t → t < q * day .packets .till i
-        → packetRate i ≤ rateAt (day .epochs) q epochRate t
-    window-rate q t i h a b = go (cut .covered q t i h a b)
+    conditions : Conditions seconds (day .packets) (day .epochs) L packetRate epochRate
+    conditions =
+        record {
+          rising = r .rising;
+          lengths = r .seconds;
+          today = cut .today;
+          covered = λ q t i h a b. inside q t i h (cut .covered q t i h a b) a b;
+          K1 = not-slower;
+          K2 = by-packets ∙ sym by-epochs;
+        }
       where
-        -- multiplied by q, the one is below the other only if it is so itself
-        less : (x y : ℕ) → q * x < q * y → x < y
-        less x y l = at (decLe y x)
-          where
-            at : Dec (y ≤ x) → x < y
-            at (yes m) = absurd (omega (arith, mul-le-mul-left q m))
-            at (no m) = omega (arith, m)
-
-        go : (k : ℕ) × (k < day .epochs .count) × (q * day .epochs .from k ≤ t) × (t < q * day .epochs .till k)
-            → packetRate i ≤ rateAt (day .epochs) q epochRate t
-        go (k, g, x, y) =
-            le-trans (not-slower i k h g (arrived (r .proper .arrivals i k h g)) (in-time (r .proper .deadlines i k h g)))
-            (rate-at (day .epochs) q epochRate t k g x y)
+        -- an epoch that has a slot of the window lies inside it, since no arrival and no deadline divides it
+        inside : (q t i : ℕ) → i < day .packets .count
+            → (k : ℕ) × (k < day .epochs .count) × (q * day .epochs .from k ≤ t) × (t < q * day .epochs .till k)
+            → q * day .packets .from i ≤ t → t < q * day .packets .till i
+            → (k : ℕ) × (k < day .epochs .count) × (day .packets .from i ≤ day .epochs .from k) × (day .epochs .till k ≤ day .packets .till i)
+            × (q * day .epochs .from k ≤ t) × (t < q * day .epochs .till k)
+        inside q t i h (k, g, x, y) a b = (k, g, arrived (r .proper .arrivals i k h g), in-time (r .proper .deadlines i k h g), x, y)
           where
             arrived : (day .packets .from i ≤ day .epochs .from k) ⊎ (day .epochs .till k ≤ day .packets .from i) → day .packets .from i ≤ day .epochs .from k
             arrived (inl z) = z
@@ -153,38 +141,26 @@ module _ (day : Day) (rates : Progress) (r : Rated day rates) where
             in-time (inl z) = absurd (omega (arith, mul-le-mul-left q z))
             in-time (inr z) = z
 
+    -- the exact cost by slots
+    pub exact-by-slots : (q : ℕ)
+        → sum (q * seconds) (λ t. rateAt (day .epochs) q epochRate t * rateAt (day .epochs) q epochRate t) ≡ q * exactCostN day rates
+    exact-by-slots q =
+        by-slots seconds (day .packets) (day .epochs) L packetRate epochRate conditions q ∙ ap (λ (x : ℕ). q * x) by-epochs
+
     -- no rival costs less
     pub no-rival-below : (slots : ℕ) (bytes : ℕ → ℕ → Fraction) → Rival seconds (day .packets) slots bytes
         → NotAbove (record { over = exactCostN day rates; under = exactCostD day rates }) (rivalCost seconds (day .packets) slots bytes)
     unfolding exactCostD
     no-rival-below slots bytes rival =
-        le-of-mul-le-mul-right {k = M * M}
-        (omega (
-          arith,
-          mul-le-mul-right (rivalCost seconds (day .packets) slots bytes .under) bound,
-          ap (λ (x : ℕ). x * (L * L)) (cost-in seconds (day .packets) slots bytes M y (sent-units seconds (day .packets) slots bytes rival)),
-        ))
-        (mul-pos M-some M-some)
-      where
-        M : ℕ
-        M = denominator seconds (day .packets) slots bytes rival
+        subst (λ (x : ℕ). NotAbove (record { over = x; under = L * L }) (rivalCost seconds (day .packets) slots bytes)) by-epochs
+        (no-cheaper seconds (day .packets) (day .epochs) L packetRate epochRate conditions slots bytes rival)
 
-        M-some : 0 < M
-        M-some = denominator-some seconds (day .packets) slots bytes rival
-
-        y : ℕ → ℕ → ℕ
-        y = sent seconds (day .packets) slots bytes rival
-
-        allowed : (t i : ℕ) → t < slots * seconds → i < day .packets .count → (y t i ≡ 0) ⊎ (packetRate i ≤ rateAt (day .epochs) slots epochRate t)
-        allowed t i h g = go (decLe (slots * day .packets .from i) t) (decLt t (slots * day .packets .till i))
-          where
-            go : Dec (slots * day .packets .from i ≤ t) → Dec (t < slots * day .packets .till i)
-                → (y t i ≡ 0) ⊎ (packetRate i ≤ rateAt (day .epochs) slots epochRate t)
-            go (yes a) (yes b) = inr (window-rate slots t i g a b)
-            go (yes a) (no b) = inl (sent-outside seconds (day .packets) slots bytes rival t i h g (inr (omega (arith, b))))
-            go (no a) b = inl (sent-outside seconds (day .packets) slots bytes rival t i h g (inl (omega (arith, a))))
-
-        bound : exactCostN day rates * (M * M) ≤ slots * sum (slots * seconds) (λ t. sum (day .packets .count) (y t) * sum (day .packets .count) (y t)) * (L * L)
-        bound =
-            lower-bound (slots * seconds) slots (day .packets .count) (day .packets .weight) packetRate (rateAt (day .epochs) slots epochRate) y L M (exactCostN day rates)
-            (rival .some) (by-slots slots) by-packets (sent-whole seconds (day .packets) slots bytes rival) allowed
+    -- one that costs as little has the rate of the epoch in every slot
+    pub same-rival-rates : (slots : ℕ) (bytes : ℕ → ℕ → Fraction) → Rival seconds (day .packets) slots bytes
+        → Equal (rivalCost seconds (day .packets) slots bytes) (record { over = exactCostN day rates; under = exactCostD day rates })
+        → (t : ℕ) → t < slots * seconds
+        → Equal (slotRate (day .packets) slots bytes t) (record { over = rateAt (day .epochs) slots epochRate t; under = L })
+    unfolding exactCostD
+    same-rival-rates slots bytes rival e =
+        same-slot-rates seconds (day .packets) (day .epochs) L packetRate epochRate conditions slots bytes rival
+        (subst (λ (x : ℕ). Equal (rivalCost seconds (day .packets) slots bytes) (record { over = x; under = L * L })) (sym by-epochs) e)

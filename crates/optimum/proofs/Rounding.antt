@@ -1,17 +1,17 @@
 -- The price of rounding rates up. A packet's R times D is less than N and the price of the rounding times D; so over all packets, bytes times R come to less than bytes times
 -- rate, which is the exact cost, and the price for each byte. No rival is below the exact cost. The bound is strict because each packet's is, and every list has a byte.
 -- Assumes nothing.
-use Prim.Native.Nat.{ℕ, zero, suc, _+_, _*_, _/_, _<_, _≤_, _∣_}
-use mathlib.Core.Path.{_≡_, refl, sym, ap, subst, _∙_}
+use Prim.Native.Nat.{ℕ, _+_, _*_, _/_, _<_, _≤_, _∣_}
+use mathlib.Core.Path.{_≡_, sym, ap, subst}
 use native.Mathlib.Omega.{arith}
-use native.Mathlib.Nat.{le-trans, lt-of-mul-lt-mul-right, mul-div-cancel', mul-le-mul-left, mul-le-mul-right, mul-pos}
-use Rattle.policy.specs.Windows.{Windows, Given, none, rate, sum}
+use native.Mathlib.Nat.{dvd-mul-left, pos-of-dvd-of-pos, le-trans, lt-of-mul-lt-mul-right, mul-div-cancel', mul-le-mul-left, mul-le-mul-right, mul-pos}
+use Rattle.policy.specs.Windows.{Given, rate, sum}
 use Rattle.policy.specs.Rounds.{Day, Progress}
 use Rattle.policy.specs.Carried.{inUnits, priceOf, priced}
 use Rattle.policy.proofs.Sums.{sum-add, sum-at, sum-le, sum-scale}
 use Rattle.policy.proofs.Facts.{assigned}
 use Rattle.timetable.specs.Setting.{setting}
-use Rattle.timetable.specs.Costs.{commonD, exactCostD, exactCostN, radioCost}
+use Rattle.timetable.specs.Costs.{exactCostD, exactCostN, radioCost}
 use Rattle.timetable.proofs.NeverLate.{Rated}
 use Rattle.timetable.proofs.Settings.{setting-close}
 use Rattle.optimum.specs.Rival.{Fraction, whole, plus, NotAbove, Below}
@@ -28,15 +28,11 @@ unfolding inUnits
 priced-in L n d h some m =
     omega (
       arith,
-      positive d (L / d) (subst (λ (x : ℕ). 0 < x) (sym (mul-div-cancel' d m)) some),
+      pos-of-dvd-of-pos (dvd-mul-left (L / d) d) (subst (λ (x : ℕ). 0 < x) (sym (mul-div-cancel' d m)) some),
       mul-le-mul-right (L / d) (setting-priced n d h),
       ap (λ (x : ℕ). setting n d * x) (mul-div-cancel' d m),
       mul-div-cancel' d m,
     )
-  where
-    positive : (a b : ℕ) → 0 < a * b → 0 < b
-    positive a zero p = absurd (omega arith)
-    positive a (suc b) p = omega arith
 
 -- x less than e/l and more, e/l not above y: x is less than y and more
 less-than-more : (x e l p : ℕ) (y : Fraction) → 0 < y .under → x * l < e + p * l → NotAbove (record { over = e; under = l }) y → Below (whole x) (plus y (whole p))

@@ -1,9 +1,8 @@
 -- Epochs cut into slots, q in a second. A slot's rate is that of the epoch it lies in, and 0 where it lies in none; so the squares of the slots' rates add up
 -- to q times the sum over epochs of the rate squared times the length. Rates are in any unit. Assumes nothing.
 use Prim.Native.Nat.{ℕ, zero, suc, _+_, _-_, _*_, _<_, _≤_, min}
-use mathlib.Core.Path.{_≡_, refl, sym, ap, _∙_}
+use mathlib.Core.Path.{_≡_, refl, ap, _∙_}
 use mathlib.Core.Bool.{Bool, true, false, _&&_}
-use mathlib.Core.Logic.{_⊎_, inl, inr}
 use native.Mathlib.Omega.{arith}
 use native.Mathlib.Decide.{decLe, decLt}
 use native.Mathlib.Nat.{le-trans, mul-le-mul-left}

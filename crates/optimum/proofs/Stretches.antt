@@ -1,25 +1,23 @@
 -- Stretches second by second. What one entry sends in each second adds up to the entry; outside its epoch it sends nothing; and the entries of one epoch, which
 -- do not overlap, send at most N units in any second of it. Units are 1/D byte. Assumes nothing.
-use Prim.Native.Nat.{ℕ, zero, suc, _+_, _-_, _*_, _/_, _<_, _≤_, _∣_, min, max}
-use mathlib.Core.Path.{_≡_, refl, sym, ap, subst, _∙_}
-use mathlib.Core.Bool.{Bool, true, false}
+use Prim.Native.Nat.{ℕ, zero, suc, _+_, _-_, _*_, _/_, _<_, _≤_, min, max}
+use mathlib.Core.Path.{_≡_, refl, sym, ap, _∙_}
 use mathlib.Core.List.{List, [], _∷_}
 use mathlib.Core.Logic.{_⊎_, inl, inr}
 use native.Mathlib.Omega.{arith}
 use native.Mathlib.Decide.{decLe, decLt}
-use native.Mathlib.Nat.{le-antisymm, le-trans, mul-le-mul-left, mul-le-mul-right, mul-pos}
-use lib.Dec.{eqb}
-use Rattle.policy.specs.Windows.{Given, rate, onlyIf, choose, sum}
+use native.Mathlib.Nat.{le-trans, mul-le-mul-right}
+use Rattle.policy.specs.Windows.{rate, sum}
 use Rattle.policy.specs.Rounds.{Day, Progress}
 use Rattle.policy.proofs.Sums.{sum-add, sum-none}
 use Rattle.timetable.specs.Entries.{Entry, unitsIn}
 use Rattle.timetable.specs.Right.{Each, EndsBy, Ordered, Right}
 use Rattle.timetable.proofs.NeverLate.{Rated}
-use Rattle.optimum.specs.Rival.{Fraction, whole, plus}
 use Rattle.optimum.specs.Optimum.{unitsAt}
 
 -- ## Sums over entries
 
+-- a fact of each entry from two
 pub each-zip : {P Q R : Entry → Type 0} → ((e : Entry) → P e → Q e → R e) → (entries : List Entry) → Each P entries → Each Q entries → Each R entries
 each-zip f [] p q = tt
 each-zip f (e ∷ entries) p q = (f e (p .0) (q .0), each-zip f entries (p .1) (q .1))
@@ -29,16 +27,19 @@ unfoldable pub over : (Entry → ℕ) → List Entry → ℕ
 over f [] = 0
 over f (e ∷ entries) = f e + over f entries
 
+-- equal terms
 pub over-eq : (f g : Entry → ℕ) (entries : List Entry) → Each (λ e. f e ≡ g e) entries → over f entries ≡ over g entries
 unfolding over
 over-eq f g [] h = refl
 over-eq f g (e ∷ entries) h = omega (arith, h .0, over-eq f g entries (h .1))
 
+-- term by term
 pub over-le : (f g : Entry → ℕ) (entries : List Entry) → Each (λ e. f e ≤ g e) entries → over f entries ≤ over g entries
 unfolding over
 over-le f g [] h = omega arith
 over-le f g (e ∷ entries) h = omega (arith, h .0, over-le f g entries (h .1))
 
+-- the order of two sums
 pub over-sum : (n : ℕ) (f : ℕ → Entry → ℕ) (entries : List Entry) → sum n (λ t. over (f t) entries) ≡ over (λ e. sum n (λ t. f t e)) entries
 unfolding over
 over-sum n f [] = sum-none n (λ t. 0) (λ t h. refl)
@@ -150,6 +151,7 @@ module _ (day : Day) (rates : Progress) (r : Rated day rates) where
       abbrev last : ℕ
       last = (suc j - day .epochs .from k) * n
 
+      -- an entry whose epoch has second j is of epoch k
       here : (e : Entry) (g : Right day rates e) → day .epochs .from (g .epoch) ≤ j → j < day .epochs .till (g .epoch) → Here day k n d e
       here e g x y =
           record {
@@ -173,6 +175,7 @@ module _ (day : Day) (rates : Progress) (r : Rated day rates) where
           go (something u v) (inl l) = absurd (omega (arith, l, x .starts, here f g u v .starts))
           go (something u v) (inr l) = inr (l .1)
 
+      -- entries that begin from an offset on send no more in second j than lies behind it
       bounded : (entries : List Entry) → Each (Right day rates) entries → Ordered entries → (from : ℕ) → Each (From j from) entries
           → over (λ e. unitsAt j e * (L / e .D)) entries ≤ (last - max from first) * (L / d)
       unfolding over

@@ -1,10 +1,10 @@
 -- Laws of finite sums beyond the policy's. Each goes by the number of terms. Assumes nothing.
-use Prim.Native.Nat.{ℕ, zero, suc, _+_, _*_, _<_, _≤_}
+use Prim.Native.Nat.{ℕ, zero, suc, _*_, _<_, _≤_}
 use mathlib.Core.Path.{_≡_, refl, sym, ap, _∙_}
 use native.Mathlib.Omega.{arith}
 use native.Mathlib.Decide.{ℕ-discrete}
 use Rattle.policy.specs.Windows.{sum}
-use Rattle.policy.proofs.Sums.{sum-eq, sum-le, sum-add, sum-scale, sum-none}
+use Rattle.policy.proofs.Sums.{sum-le, sum-add, sum-scale, sum-none}
 
 -- the order of two sums
 pub sum-exchange : (m n : ℕ) (f : ℕ → ℕ → ℕ) → sum m (λ t. sum n (f t)) ≡ sum n (λ i. sum m (λ t. f t i))

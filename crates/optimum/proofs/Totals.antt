@@ -1,12 +1,12 @@
 -- Sums of fractions over a common denominator. If each of the fractions is m over M, their sum is the sum of the m over M. Assumes nothing.
-use Prim.Native.Nat.{ℕ, zero, suc, _+_, _*_, _/_, _<_, _≤_, _∣_}
-use mathlib.Core.Path.{_≡_, refl, sym, ap, subst}
+use Prim.Native.Nat.{ℕ, zero, suc, _*_, _<_, _∣_}
+use mathlib.Core.Path.{_≡_, sym, ap, subst}
 use native.Mathlib.Omega.{arith}
 use native.Mathlib.Decide.{ℕ-discrete}
-use native.Mathlib.Nat.{dvd-mul-left, dvd-mul-right-of-dvd, dvd-trans, mul-pos, mul-div-cancel'}
+use native.Mathlib.Nat.{dvd-mul-left, dvd-mul-right-of-dvd, mul-pos}
 use Rattle.policy.specs.Windows.{sum}
 use Rattle.timetable.specs.Costs.{product}
-use Rattle.optimum.specs.Rival.{Fraction, whole, plus, total}
+use Rattle.optimum.specs.Rival.{Fraction, total}
 
 -- the denominator of a sum
 pub total-under : (n : ℕ) (f : ℕ → Fraction) → ((i : ℕ) → i < n → 0 < f i .under) → 0 < total n f .under

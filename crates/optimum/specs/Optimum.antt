@@ -15,7 +15,8 @@ use Rattle.optimum.specs.Rival.{Fraction, whole, plus, Equal, NotAbove, 
 
 -- ## Rivals of a list
 
--- a rival of a list sends its packets, with their bytes on the air, in the seconds of the day; no window goes on after the last of them
+-- a rival of a list sends its packets, with their bytes on the air, in the seconds of the day. Every window ends by the last of them, so a slot after it would
+-- get nothing
 abbrev pub RivalOf : ℕ → List ℕ → ℕ → (ℕ → ℕ → Fraction) → Type 0
 RivalOf count records slots bytes = Rival lastSecond (packetsOf count records) slots bytes
 
@@ -78,8 +79,8 @@ pub record Optimum (count : ℕ) (records : List ℕ) : Type 0 where
   pub rival : RivalOf count records 1 (exactBytes count records)
   -- .. and costs as a rival what it costs: it is the cheapest
   pub attained : Equal (rivalCostOf count records 1 (exactBytes count records)) (exactCost count records)
-  -- the radio timetable costs less than any rival and the price of the rounding for each byte in the list: less, and not only not more, because every setting
-  -- is less than the price above its rate
+  -- the radio timetable costs less than any rival and the price of the rounding for each byte in the list. Less, and not only not more: R times D is below N and
+  -- the price times D for every packet, and a list has a byte
   pub rounded : (slots : ℕ) (bytes : ℕ → ℕ → Fraction) → RivalOf count records slots bytes
       → Below (whole (costOf count records)) (plus (rivalCostOf count records slots bytes) (whole (roundingPrice * bytesOf count records)))
   -- it sends every packet whole, inside its window

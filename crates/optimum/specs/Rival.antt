@@ -38,7 +38,7 @@ Below x y = x .over * y .under < y .over * x .under
 
 -- ## Rivals
 
--- slot t lies outside the window of packet i
+-- slot t lies outside the window of packet i: it ends by the arrival or begins from the deadline on, since both are whole seconds
 abbrev pub Outside : Windows → ℕ → ℕ → ℕ → Type 0
 Outside packets slots t i = (t < slots * packets .from i) ⊎ (slots * packets .till i ≤ t)
 
@@ -46,7 +46,7 @@ Outside packets slots t i = (t < slots * packets .from i) ⊎ (slots * packets .
 pub record Rival (seconds : ℕ) (packets : Windows) (slots : ℕ) (bytes : ℕ → ℕ → Fraction) : Type 0 where
   -- one slot or more in each second
   pub some : 0 < slots
-  -- each slot gets a fraction from each packet, with a denominator of its own
+  -- each slot gets from each packet a fraction of 0 or more, with a denominator of its own
   pub fractions : (t i : ℕ) → t < slots * seconds → i < packets .count → 0 < bytes t i .under
   -- nothing outside that packet's window
   pub windows : (t i : ℕ) → t < slots * seconds → i < packets .count → Outside packets slots t i → bytes t i .over ≡ 0
