@@ -143,7 +143,7 @@ fn count_on(bytes: &[u8]) -> usize
 }
 
 // The bytes that a list of so many packets takes (bytes).
-fn list_bytes(count: usize) -> usize
+pub fn list_bytes(count: usize) -> usize
     requires { ⌜ count < 128 ⌝ }
     ensures { λ r. ⌜ r ≡ listBytes count ⌝ }
 {
