@@ -163,6 +163,12 @@ module _ (day : Day) (rates : Progress) where
   unfolding exactCostD exactCostN
   exact-cost L c = exact-same L (commonD day rates) c common
 
+  -- the exact cost, packet by packet: bytes times rate, in units of 1/L squared
+  pub exact-by-packets : (L : ℕ) → Rated day rates → ((i n d : ℕ) → i < day .packets .count → rates .packet i ≡ rate n d → d ∣ L)
+      → priced (inUnits L) (day .packets) (rates .packet) * L ≡ exactCostIn L day rates
+  unfolding exactCostIn
+  exact-by-packets L r multiple = r .facts .K2 L (inUnits L) multiple
+
 -- ## Accepted lists
 
 module _ (count : ℕ) (records : List ℕ) (accepted : Accepted count records) where

@@ -21,7 +21,7 @@ use Rattle.policy.proofs.Facts.{assigned}
 use Rattle.timetable.specs.Setting.{mostRate, setting}
 use Rattle.timetable.specs.Entries.{Entry, Sheet, entriesOf, exactMoment, radioMoment, sheetAt, unitsIn, unitsOf}
 use Rattle.timetable.specs.Right.{Each, Figured, InsideEpoch, Ordered, Right, Timetable, inEpoch, mostEntries, ofPacket, unitsWhere}
-use Rattle.timetable.proofs.NeverLate.{Rated, all-sent, full, reached}
+use Rattle.timetable.proofs.NeverLate.{Rated, all-sent, full, quiet, reached}
 use Rattle.timetable.proofs.Entered.{Entered, each-map, entered}
 use Rattle.timetable.proofs.Settings.{setting-covers, setting-most, setting-some}
 
@@ -82,6 +82,7 @@ module _ (count : ℕ) (records : List ℕ) (accepted : Accepted count records) 
         ordered = here .ordered;
         whole = whole;
         full = λ k n d h p. here .epoch-units k h ∙ full day rates rated k n d h p;
+        silent = λ k h p. here .epoch-units k h ∙ quiet day rates rated k p;
         some = go (sheetAt day rates (day .epochs .count) .entries) (whole 0 (omega (arith, packets-are, accepted .some)));
         few = omega (arith, here .counted, packets-are, epochs-few, accepted .few);
       })

@@ -414,3 +414,10 @@ module _ (day : Day) (rates : Progress) (r : Rated day rates) where
           at : (i : ℕ) (b : Bool) → i < day .packets .count → onlyIf b (sheetAt day rates (day .epochs .count) .unsent i) ≡ 0
           at i true q = unfold onlyIf in all-sent i q
           at i false q = unfold onlyIf in refl
+
+  -- nothing is sent in a silent epoch
+  pub quiet : (k : ℕ) → rates .epoch k ≡ none → reached k ≡ 0
+  quiet k p = unfold sheetAt in (ap (λ (x : Given). filled day rates k x (sheetAt day rates k) .offset) p ∙ here)
+    where
+      here : filled day rates k none (sheetAt day rates k) .offset ≡ 0
+      here = unfold filled begun in refl

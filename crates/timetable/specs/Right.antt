@@ -8,7 +8,7 @@ use mathlib.Core.List.{List, [], _∷_}
 use lib.ListN.{length}
 use lib.Dec.{eqb}
 use Rattle.packets.specs.Limits.{lastSecond}
-use Rattle.policy.specs.Windows.{Given, rate, onlyIf}
+use Rattle.policy.specs.Windows.{none, rate, onlyIf}
 use Rattle.policy.specs.Rounds.{Day, Progress}
 use Rattle.timetable.specs.Setting.{mostRate, setting}
 use Rattle.timetable.specs.Entries.{Entry, exactMoment, radioMoment, unitsIn, unitsOf}
@@ -92,6 +92,8 @@ pub record Timetable (day : Day) (rates : Progress) (entries : List Entry) : Typ
   pub whole : (i : ℕ) → i < day .packets .count → unitsWhere (ofPacket i) entries ≡ unitsOf day rates i
   -- every epoch that carries a rate is filled exactly
   pub full : (k n d : ℕ) → k < day .epochs .count → rates .epoch k ≡ rate n d → unitsWhere (inEpoch (day .epochs .from k)) entries ≡ unitsIn day k n
+  -- nothing is sent in a silent epoch
+  pub silent : (k : ℕ) → k < day .epochs .count → rates .epoch k ≡ none → unitsWhere (inEpoch (day .epochs .from k)) entries ≡ 0
   -- there is an entry, and there are not too many
   pub some : 0 < length entries
   pub few : length entries ≤ mostEntries
