@@ -2,15 +2,15 @@
 -- every event point at most N times the seconds of its epochs still to come up to e. Over an epoch both sides lose the same, or every packet due by e that has
 -- arrived is finished, and H bounds what is to arrive. At the end nothing is unsent; and as no epoch takes more than it holds, each is full. Assumes nothing.
 use Prim.Native.Nat.{ℕ, zero, suc, _+_, _-_, _*_, _<_, _≤_}
-use mathlib.Core.Path.{_≡_, refl, sym, ap, subst, subst₂, _∙_}
+use mathlib.Core.Path.{_≡_, refl, sym, ap, subst₂, _∙_}
 use mathlib.Core.Bool.{Bool, true, false, _&&_}
 use mathlib.Core.Logic.{_⊎_, inl, inr}
 use native.Mathlib.Omega.{arith}
-use native.Mathlib.Decide.{decLe, decLt, ℕ-discrete}
-use native.Mathlib.Nat.{le-trans, mul-le-mul-left, mul-le-mul-right}
+use native.Mathlib.Decide.{decLe, ℕ-discrete}
+use native.Mathlib.Nat.{le-trans, mul-le-mul-left}
 use lib.Dec.{leb}
-use borrow.Author.Tests.{le-leb, lt-leb, leb-true, leb-false}
-use Rattle.policy.specs.Windows.{Windows, Given, none, rate, inside, onlyIf, sum, unassigned}
+use borrow.Author.Tests.{le-leb, lt-leb, leb-true}
+use Rattle.policy.specs.Windows.{Given, none, rate, inside, onlyIf, sum}
 use Rattle.policy.specs.Rounds.{Day, Progress}
 use Rattle.policy.specs.Runs.{Finished}
 use Rattle.policy.specs.Carried.{carries, carried, carriedInAll}

@@ -1,11 +1,11 @@
 -- Answers of wrong programs that the promise does not admit, each refuted on one small list. Assumes nothing.
-use Prim.Native.Nat.{ℕ, zero, suc, pred}
+use Prim.Native.Nat.{ℕ}
 use mathlib.Core.Path.{_≡_, ap}
 use lib.ListN.{getD}
 use native.Mathlib.Omega.{arith}
 use mathlib.Core.List.{List, [], _∷_}
 use Rattle.packets.specs.Limits.{airBytes}
-use Rattle.packets.specs.Outcome.{_given_else_, _then_, _when_else_, gives, inOrder, refuses}
+use Rattle.packets.specs.Outcome.{_given_else_, _then_, _when_else_, inOrder}
 use Rattle.packets.specs.Records.{arrivalOf, deadlineOf, memoryTests, recordAt, recordTest, recordTests, sizeOf}
 use Rattle.fractions.specs.Fraction.{euclid, gcd, lowestN, lowestD}
 use Rattle.policy.specs.Windows.{assign, choose, inside, left, onlyIf, sum, unassigned}

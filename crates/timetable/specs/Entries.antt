@@ -4,7 +4,7 @@ use Prim.Native.Nat.{ℕ, zero, suc, _+_, _-_, _*_, min}
 use mathlib.Core.Bool.{Bool, _&&_}
 use mathlib.Core.List.{List, [], _∷_, _++_}
 use lib.Dec.{eqb, ltb}
-use Rattle.policy.specs.Windows.{Windows, Given, none, rate, inside, choose}
+use Rattle.policy.specs.Windows.{Given, none, rate, inside, choose}
 use Rattle.policy.specs.Rounds.{Day, Progress, dayOf, outcomeOf}
 use Rattle.policy.specs.Carried.{carries}
 use Rattle.policy.specs.Answer.{shownD, epochCount}

@@ -84,7 +84,7 @@ pub record InsideEpoch (day : Day) (e : Entry) (epoch : ℕ) : Type 0 where
   pub radio : radioMoment e (e .to) .over ≤ day .epochs .weight epoch * radioMoment e (e .to) .under
   pub not-later : (x : ℕ) → radioMoment e x .over * exactMoment e x .under ≤ exactMoment e x .over * radioMoment e x .under
 
--- all of it
+-- the entries of a day's two timetables are right
 pub record Timetable (day : Day) (rates : Progress) (entries : List Entry) : Type 0 where
   pub right : Each (Right day rates) entries
   pub ordered : Ordered entries
