@@ -44,7 +44,7 @@ write-last bytes widths values p from k h = rw drop-of-length-le
 
 -- ---- the rows of a table
 
-sets-append : (l : List ℕ) (i : ℕ) (a b : List ℕ) → sets l i (a ++ b) ≡ sets (sets l i a) (i + length a) b
+pub sets-append : (l : List ℕ) (i : ℕ) (a b : List ℕ) → sets l i (a ++ b) ≡ sets (sets l i a) (i + length a) b
 sets-append l i [] b = rw add-zero
 sets-append l i (v ∷ a) b = let e : suc i + length a ≡ i + suc (length a) = omega arith in rw (← e) (sets-append (set l i v) (suc i) a b)
 

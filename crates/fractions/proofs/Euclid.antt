@@ -1,7 +1,7 @@
 -- Laws of the greatest common divisor. Each goes by the turns of Euclid's rule: what divides the divisor divides the number exactly when it
 -- divides the remainder. Assumes nothing.
-use Prim.Native.Nat.{ℕ, zero, suc, _+_, _-_, _*_, _/_, _%_, _<_, _≤_, _∣_}
-use mathlib.Core.Path.{_≡_, refl, sym, ap, subst, _∙_}
+use Prim.Native.Nat.{ℕ, zero, suc, _-_, _*_, _/_, _%_, _<_, _≤_, _∣_}
+use mathlib.Core.Path.{_≡_, refl, sym, ap, _∙_}
 use native.Mathlib.Omega.{arith}
 use native.Mathlib.Nat.{mod-lt, dvd-zero, dvd-refl, dvd-mod-iff, mod-def, mul-div-mul-right, mul-sub, mul-pos, zero-mul, pos-of-dvd-of-pos}
 use Rattle.fractions.specs.Fraction.{euclid, gcd}

@@ -1,11 +1,11 @@
 -- Laws of lowest terms: a fraction in lowest terms keeps its value, is no larger than what it comes from, and is the only one of that value.
 -- The last stands on `gcd-scale`: of two equal fractions in lowest terms, N D' over D D' has the greatest common divisor D', and N' D over D D' has D.
 -- Assumes nothing.
-use Prim.Native.Nat.{ℕ, zero, suc, _+_, _-_, _*_, _/_, _%_, _<_, _≤_, _∣_, _^_}
-use mathlib.Core.Path.{_≡_, refl, sym, ap, subst, _∙_}
+use Prim.Native.Nat.{ℕ, zero, suc, _*_, _<_, _≤_, _^_}
+use mathlib.Core.Path.{_≡_, ap}
 use native.Mathlib.Omega.{arith}
-use native.Mathlib.Nat.{div-mul-cancel, div-le-self, mul-dvd-mul-right, dvd-of-mul-dvd-mul-right, eq-one-of-dvd-one, one-mul, mul-comm, mul-pos, eq-of-mul-eq-mul-right, mul-le-mul-left, mul-le-mul-right, le-of-mul-le-mul-right, mul-lt-mul-of-pos-right, lt-of-le-of-lt, le-of-lt, pos-of-ne-zero}
-use Rattle.fractions.specs.Fraction.{euclid, gcd, lowestN, lowestD, Lowest}
+use native.Mathlib.Nat.{div-mul-cancel, div-le-self, mul-dvd-mul-right, dvd-of-mul-dvd-mul-right, eq-one-of-dvd-one, one-mul, mul-comm, eq-of-mul-eq-mul-right, mul-le-mul-left, mul-lt-mul-of-pos-right, lt-of-le-of-lt, le-of-lt}
+use Rattle.fractions.specs.Fraction.{gcd, lowestN, lowestD, Lowest}
 use Rattle.fractions.proofs.Euclid.{gcd-left, gcd-right, gcd-greatest, gcd-positive, gcd-scale}
 
 -- the load is N times the divisor

@@ -1,6 +1,6 @@
 -- Fractions in lowest terms (document 01, "Figures and their units" and "Epochs and rates"). A fraction is two whole numbers, N over D.
 -- Assumes nothing.
-use Prim.Native.Nat.{ℕ, zero, suc, _*_, _/_, _%_, _<_, _∣_}
+use Prim.Native.Nat.{ℕ, zero, suc, _/_, _%_, _∣_}
 use mathlib.Core.Path.{_≡_}
 
 -- Euclid's rule: the remainder takes the divisor's place until it is zero. The first number bounds how often.

@@ -17,7 +17,6 @@ use Rattle.packets.specs.declared.list.WrittenAnswer.the-variants as wri
 use Rattle.packets.specs.Outcome.{Outcome, gives, refuses, refusalOf, verdictOf, listAnswerOf, writtenAnswerOf}
 use Rattle.packets.specs.Records.{memoryTests}
 use Rattle.packets.specs.List.{ListJudged, ListRead, ListWritten}
-use Rattle.packets.proofs.Outcomes.{refusal-refuses}
 
 -- ---- refusals
 
@@ -64,7 +63,6 @@ refusal-one a b e = sym (refusal-decoded a) ∙ ap decoded e ∙ refusal-decoded
 -- a refusal gives no values
 pub refusal-gives : {A : Type 0} (refusal : Refusal) (values : List ℕ) → refusalOf refusal ≡ gives values → A
 refusal-gives refusal values e =
-    let r = refusal-refuses refusal .2 in
     let z : _≡_ {A = ℕ} 0 1 = cc in
     absurd (omega arith)
 

@@ -3,5 +3,4 @@ pub mod Records
 pub mod Lists
 pub mod Answers
 pub mod Trips
-pub mod Cases
 pub mod Wrong

@@ -14,11 +14,11 @@ use Rattle.bits.proofs.Tables.{total-rows, length-rows, length-fields}
 use Rattle.packets.specs.Limits.{mostPackets}
 use Rattle.packets.specs.Outcome.{Outcome, gives, refuses, _when_else_, _then_, refusalOf}
 use Rattle.packets.specs.declared.refusal.Refusal.the-variants.{NoRoom}
-use Rattle.packets.specs.Records.{recordNumbers, recordTests, memoryTests}
+use Rattle.packets.specs.Records.{recordNumbers, recordTests, memoryTests, Accepted}
 use Rattle.packets.specs.List.{countWidth, recordWidths, listBytes, countOn, recordsOn, unusedOn, wireTests, roomTest, readOutcome, recordsAfter, restAfter, writeOutcome, bytesAfter}
 use Rattle.packets.specs.declared.refusal.Refusal.{Refusal}
 use Rattle.packets.proofs.Outcomes.{when-gives, then-gives, refused-then, passed-then, given-leaves, refused-leaves}
-use Rattle.packets.proofs.Records.{tests-pass}
+use Rattle.packets.proofs.Records.{tests-pass, records-sound}
 
 -- ---- the bits of a list
 
@@ -209,3 +209,47 @@ pub write-undone : (count : ℕ) (records lent : List ℕ) (refusal : Refusal) �
     → lent ≡ bytesAfter count records lent
 unfolding bytesAfter
 write-undone count records lent refusal e = sym (refused-leaves refusal _ _ e)
+
+-- ---- a list for the layers above
+
+-- where the tests of the bytes and of the records pass, the packets are accepted
+pub packets-accepted : (bytes own values : List ℕ) → wireTests bytes ≡ gives own → recordTests (countOn bytes) 0 (recordsOn bytes) ≡ gives values
+    → Accepted (countOn bytes) (recordsOn bytes)
+packets-accepted bytes own values wire tests =
+    let w = wire-whole bytes own wire .1 in
+    let long : length (recordsOn bytes) ≡ recordNumbers * countOn bytes = (unfold recordsOn in (length-records bytes (countOn bytes))) in
+    record {
+      some = w .some;
+      few = w .few;
+      held = omega (arith, long);
+      sound = λ i within. records-sound (countOn bytes) 0 (recordsOn bytes) values tests i (omega arith) (omega arith);
+    }
+
+-- a list that is read passes both, and its packets are accepted
+pub read-passes : (bytes : List ℕ) (room : ℕ) (values : List ℕ) → readOutcome bytes room ≡ gives values
+    → (gives [] ≡ wireTests bytes) × (gives [] ≡ recordTests (countOn bytes) 0 (recordsOn bytes)) × Accepted (countOn bytes) (recordsOn bytes)
+unfolding readOutcome
+read-passes bytes room values h =
+    let a = then-gives (wireTests bytes) _ h in
+    let w = wire-whole bytes (a .0) (a .1) in
+    let r = read-readable bytes room values (unfold readOutcome in h) in
+    (sym (a .1 ∙ ap gives (w .0)), sym (r .sound), packets-accepted bytes (a .0) [] (a .1) (r .sound))
+
+-- a list that is refused although there is room for every record is refused for its bytes or its records, whatever is tested after them
+pub read-refused : (bytes : List ℕ) (refusal : Refusal) (next : Outcome) → refusalOf refusal ≡ readOutcome bytes (recordNumbers * mostPackets)
+    → refusalOf refusal ≡ (wireTests bytes then recordTests (countOn bytes) 0 (recordsOn bytes) then next)
+unfolding readOutcome roomTest _then_ _when_else_
+read-refused bytes refusal next e = by-wire (wireTests bytes) refl
+  where
+    by-records : (few : countOn bytes ≤ mostPackets) (tests : Outcome) → recordTests (countOn bytes) 0 (recordsOn bytes) ≡ tests
+        → refusalOf refusal ≡ (tests then roomTest bytes (recordNumbers * mostPackets)) → refusalOf refusal ≡ (tests then next)
+    by-records few (refuses n p) t h = h
+    by-records few (gives v) t h =
+        let z : _≡_ {A = ℕ} 0 1 = cc (le-ltb (recordNumbers * mostPackets) (recordNumbers * countOn bytes) (omega arith), h) in
+        absurd (omega arith)
+
+    by-wire : (tests : Outcome) → wireTests bytes ≡ tests → refusalOf refusal ≡ (wireTests bytes then recordTests (countOn bytes) 0 (recordsOn bytes) then next)
+    by-wire (refuses n p) t = rw t (rw t at e)
+    by-wire (gives v) t =
+        let w = wire-whole bytes v t in
+        rw t (by-records (w .1 .few) (recordTests (countOn bytes) 0 (recordsOn bytes)) refl (rw t at e))

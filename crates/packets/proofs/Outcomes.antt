@@ -9,7 +9,6 @@ use native.Mathlib.Numerals.{add-one}
 use native.Mathlib.Decide.{decLe}
 use Rattle.packets.specs.Outcome.{Outcome, gives, refuses, _when_else_, _then_, _given_else_, inOrder, refusalOf, verdictOf}
 use Rattle.packets.specs.declared.refusal.Refusal.{Refusal}
-use Rattle.packets.specs.declared.refusal.Refusal.the-variants.{Short, NoPackets, TooManyPackets, Size, Deadline, Arrival, UnusedBit, NoRoom, EntryCount, Entry, Cost}
 use Rattle.packets.specs.declared.judge.Verdict.{Verdict}
 use Rattle.packets.specs.declared.judge.Verdict.the-variants.{Passed, Refused}
 
@@ -30,29 +29,15 @@ then-gives (refuses n p) next h = let z : _≡_ {A = ℕ} 0 1 = cc in absurd (om
 
 -- ---- what a refusal leaves
 
--- a refusal has a number and a place
-pub refusal-refuses : (refusal : Refusal) → (number : ℕ) × (place : ℕ) × (refusalOf refusal ≡ refuses number place)
-refusal-refuses Short = (1, 0, refl)
-refusal-refuses NoPackets = (2, 0, refl)
-refusal-refuses TooManyPackets = (3, 0, refl)
-refusal-refuses (Size i) = (4, i, refl)
-refusal-refuses (Deadline i) = (5, i, refl)
-refusal-refuses (Arrival i) = (6, i, refl)
-refusal-refuses UnusedBit = (7, 0, refl)
-refusal-refuses NoRoom = (8, 0, refl)
-refusal-refuses EntryCount = (9, 0, refl)
-refusal-refuses (Entry i) = (10, i, refl)
-refusal-refuses Cost = (11, 0, refl)
-
 -- a refusal stands, whatever is tested after it
 pub refusal-stands : (refusal : Refusal) (next : Outcome) → (refusalOf refusal then next) ≡ refusalOf refusal
 unfolding _then_
-refusal-stands refusal next = rw (refusal-refuses refusal .2)
+refusal-stands refusal next = refl
 
 -- what a call leaves where its tests refuse, and where they give values
 pub refused-leaves : {A : Type 0} {tests : Outcome} (refusal : Refusal) (accepted refused : A) → refusalOf refusal ≡ tests → (accepted given tests else refused) ≡ refused
 unfolding _given_else_
-refused-leaves refusal accepted refused e = rw (← e, refusal-refuses refusal .2)
+refused-leaves refusal accepted refused e = rw (← e)
 
 pub given-leaves : {A : Type 0} {tests : Outcome} {values : List ℕ} (accepted refused : A) → gives values ≡ tests → (accepted given tests else refused) ≡ accepted
 unfolding _given_else_

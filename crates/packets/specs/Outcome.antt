@@ -41,19 +41,37 @@ unfoldable pub _given_else_ : {A : Type 0} → A → Outcome → A → A
 _given_else_ accepted (gives values) refused = accepted
 _given_else_ accepted (refuses number place) refused = refused
 
+-- the number of a refusal
+abbrev pub numberOf : Refusal → ℕ
+numberOf Short = 1
+numberOf NoPackets = 2
+numberOf TooManyPackets = 3
+numberOf (Size i) = 4
+numberOf (Deadline i) = 5
+numberOf (Arrival i) = 6
+numberOf UnusedBit = 7
+numberOf NoRoom = 8
+numberOf EntryCount = 9
+numberOf (Entry i) = 10
+numberOf Cost = 11
+
+-- its place: the index of the record or entry at fault, else 0
+abbrev pub placeOf : Refusal → ℕ
+placeOf Short = 0
+placeOf NoPackets = 0
+placeOf TooManyPackets = 0
+placeOf (Size i) = i
+placeOf (Deadline i) = i
+placeOf (Arrival i) = i
+placeOf UnusedBit = 0
+placeOf NoRoom = 0
+placeOf EntryCount = 0
+placeOf (Entry i) = i
+placeOf Cost = 0
+
 -- the number and the place of a refusal
 abbrev pub refusalOf : Refusal → Outcome
-refusalOf Short = refuses 1 0
-refusalOf NoPackets = refuses 2 0
-refusalOf TooManyPackets = refuses 3 0
-refusalOf (Size i) = refuses 4 i
-refusalOf (Deadline i) = refuses 5 i
-refusalOf (Arrival i) = refuses 6 i
-refusalOf UnusedBit = refuses 7 0
-refusalOf NoRoom = refuses 8 0
-refusalOf EntryCount = refuses 9 0
-refusalOf (Entry i) = refuses 10 i
-refusalOf Cost = refuses 11 0
+refusalOf refusal = refuses (numberOf refusal) (placeOf refusal)
 
 -- a verdict that passes gives no values
 abbrev pub verdictOf : Verdict → Outcome

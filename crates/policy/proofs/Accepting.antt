@@ -1,26 +1,23 @@
 -- Every accepted list has a proper day. Its epochs lie between neighbouring points, so no arrival and no deadline divides one, and their seconds add up
 -- to the last point less the first. Assumes nothing.
-use Prim.Native.Nat.{ℕ, zero, suc, pred, _+_, _-_, _*_, _<_, _≤_}
-use mathlib.Core.Path.{_≡_, refl, sym, ap, subst, _∙_}
-use mathlib.Core.List.{List, [], _∷_}
+use Prim.Native.Nat.{ℕ, zero, suc, pred, _+_, _-_, _<_, _≤_}
+use mathlib.Core.Path.{_≡_, refl}
+use mathlib.Core.List.{List}
 use mathlib.Core.Logic.{_⊎_, inl, inr}
 use native.Mathlib.Omega.{arith}
 use native.Mathlib.Decide.{decLe}
-use native.Mathlib.Nat.{le-trans}
 use lib.ListN.{length, getD}
-use Rattle.packets.specs.Limits.{airBytes, largestSize, lastSecond, mostPackets}
-use Rattle.packets.specs.Records.{sizeOf, arrivalOf, deadlineOf, Sound, Accepted}
+use Rattle.packets.specs.Limits.{airBytes, largestSize, lastSecond}
+use Rattle.packets.specs.Records.{sizeOf, arrivalOf, deadlineOf, Accepted}
+use Rattle.policy.specs.Figures.{largestAir}
 use Rattle.policy.specs.Windows.{sum}
 use Rattle.policy.specs.Points.{pointsOf, packetsOf, epochsOf}
 use Rattle.policy.specs.Rounds.{dayOf}
-use Rattle.policy.proofs.Proper.{Proper, mostRate}
+use Rattle.policy.proofs.Sums.{sum-most}
+use Rattle.policy.proofs.Proper.{Proper}
 use Rattle.policy.proofs.EventPoints.{Rising, Has, Event, points-rising, points-arrival, points-deadline, points-only, rising-at, rising-le}
 
 -- ## Bytes
-
--- the largest number of bytes that a packet puts on the air
-abbrev pub largestAir : ℕ
-largestAir = 65535
 
 pub air-some : (listed : ℕ) → 0 < listed → 0 < airBytes listed
 unfolding airBytes
@@ -29,11 +26,6 @@ air-some listed h = h
 pub air-most : (listed : ℕ) → listed ≤ largestSize → airBytes listed ≤ largestAir
 unfolding airBytes
 air-most listed h = h
-
-sum-most : (n c : ℕ) (f : ℕ → ℕ) → ((i : ℕ) → i < n → f i ≤ c) → sum n f ≤ n * c
-unfolding sum
-sum-most zero c f h = omega arith
-sum-most (suc n) c f h = omega (arith, sum-most n c f (λ i p. h i (omega arith)), h n (omega arith))
 
 -- ## Seconds
 

@@ -1,17 +1,16 @@
 -- The outcome of the call, case by case, and that its promise admits one answer only: the outcome gives the answer, and the records and the lent room
 -- give what is in the lent room at the end. Assumes nothing.
-use Prim.Native.Nat.{ℕ, zero, suc, pred, _+_, _-_, _*_, _<_, _≤_}
-use mathlib.Core.Path.{_≡_, refl, sym, ap, ap₂, subst, _∙_}
-use mathlib.Core.Bool.{Bool, true, false}
-use mathlib.Core.List.{List, [], _∷_, _++_}
+use Prim.Native.Nat.{ℕ, pred, _-_, _*_, _<_, _≤_}
+use mathlib.Core.Path.{_≡_, refl, sym, ap, ap₂, _∙_}
+use mathlib.Core.List.{List, [], _∷_}
 use native.Mathlib.Omega.{arith}
 use native.Mathlib.Numerals.{sub-one}
-use lib.ListN.{length, getD, take}
-use lib.Dec.{eqb, ltb}
+use lib.ListN.{length}
+use lib.Dec.{ltb}
 use borrow.Author.Tests.{lt-ltb, le-ltb}
 use Rattle.packets.specs.declared.refusal.Refusal.{Refusal}
 use Rattle.packets.specs.declared.refusal.Refusal.the-variants.{NoRoom}
-use Rattle.packets.specs.Outcome.{Outcome, gives, refuses, _when_else_, refusalOf}
+use Rattle.packets.specs.Outcome.{gives, refuses, _when_else_, refusalOf}
 use Rattle.packets.specs.Records.{memoryTests, Accepted}
 use Rattle.packets.proofs.Records.{accepted-memory}
 use Rattle.packets.proofs.Outcomes.{refused-then, passed-then, refused-leaves, given-leaves}
@@ -19,12 +18,14 @@ use Rattle.packets.proofs.Answers.{refusal-one, refusal-gives}
 use Rattle.policy.specs.declared.RatesAnswer.{RatesAnswer}
 use Rattle.policy.specs.declared.RatesAnswer.the-variants.{Rated, Refused}
 use Rattle.policy.specs.Points.{pointsOf, epochsOf}
-use Rattle.policy.specs.Rounds.{Progress, outcomeOf}
-use Rattle.policy.specs.Answer.{ratesAnswerOf, epochNumbers, epochRows, epochCount, ratesOf, ratesOutcome, overwritten, ratesAfter, EpochsRated}
+use Rattle.policy.specs.Rounds.{outcomeOf}
+use Rattle.policy.specs.declared.EpochRate.{EpochRate}
+use Rattle.policy.specs.declared.EpochRate.the-variants.{Silent, Carries}
+use Rattle.policy.specs.Answer.{epochRateOf, ratesAnswerOf, epochNumbers, epochRows, epochCount, ratesOf, ratesOutcome, overwritten, ratesAfter, EpochsRated}
 use Rattle.policy.specs.Steps as Steps
-use Rattle.policy.specs.Steps.{givenIn, givenOf}
-use Rattle.policy.proofs.Rows.{rows-length, rows-same}
-use Rattle.policy.proofs.Turning.{point-at, points-some}
+use Rattle.policy.specs.Steps.{givenIn}
+use Rattle.policy.proofs.Rows.{rows-same}
+use Rattle.policy.proofs.Turning.{point-at}
 
 -- ## The cases
 
@@ -94,3 +95,13 @@ pub epochs-rated-one : (count : ℕ) (records lent : List ℕ) (a b : RatesAnswe
     → EpochsRated count records lent a x → EpochsRated count records lent b y → (a ≡ b) × (x ≡ y)
 epochs-rated-one count records lent a b x y p q =
     (rates-answer-one a b (p .answer-is ∙ sym (q .answer-is)), p .exit-is ∙ sym (q .exit-is))
+
+-- an epoch's rate is known by what was given
+pub epoch-rate-one : (a b : EpochRate) → epochRateOf a ≡ epochRateOf b → a ≡ b
+epoch-rate-one Silent Silent e = refl
+epoch-rate-one Silent (Carries y) e = let z : _≡_ {A = ℕ} 0 1 = cc in absurd (omega arith)
+epoch-rate-one (Carries x) Silent e = let z : _≡_ {A = ℕ} 0 1 = cc in absurd (omega arith)
+epoch-rate-one (Carries x) (Carries y) e =
+    let f : x .n ≡ y .n = cc in
+    let g : x .d ≡ y .d = cc in
+    λ i. Carries (record { n = f i; d = g i })

@@ -8,7 +8,7 @@ use lib.Dec.{eqb}
 use borrow.Author.Tests.{eqb-true, eq-eqb}
 use Rattle.policy.specs.Windows.{Windows, Given, none, rate, unassigned, inside, onlyIf, left, choose, assign, sum}
 use Rattle.policy.specs.Carried.{carries, carried, carriedInAll, priceOf, priced}
-use Rattle.policy.proofs.Sums.{sum-eq, sum-le, sum-add, sum-scale, sum-at}
+use Rattle.policy.proofs.Sums.{sum-eq, sum-add, sum-scale, sum-at}
 use Rattle.policy.proofs.Left.{both, both-true, not-both-ways, inside-true, inside-is, onlyIf-le, assign-left}
 
 -- ## What is given stays

@@ -1,16 +1,16 @@
 -- Document 01's rounds are a run in which each round takes a densest interval. Each assigns a packet, so as many rounds as packets leave none
 -- unassigned. Assumes nothing.
-use Prim.Native.Nat.{ℕ, zero, suc, _+_, _*_, _<_, _≤_}
-use mathlib.Core.Path.{_≡_, refl, sym, ap, subst, _∙_}
+use Prim.Native.Nat.{ℕ, zero, suc, _≤_}
+use mathlib.Core.Path.{_≡_, refl, sym, ap, subst}
 use mathlib.Core.Bool.{Bool, true, false}
 use mathlib.Core.Logic.{_⊎_, inl, inr}
 use native.Mathlib.Omega.{arith}
-use Rattle.policy.specs.Windows.{Given, rate, unassigned}
-use Rattle.policy.specs.Rounds.{Day, Progress, atFirst, load, len, Interval, nowhere, between, pick, giveRate, taken, roundOf, round, after}
-use Rattle.policy.specs.Runs.{Best, Candidate, Densest, DataInterval, Run, begin, next, Finished}
+use Rattle.policy.specs.Windows.{unassigned}
+use Rattle.policy.specs.Rounds.{Day, Progress, atFirst, load, Interval, nowhere, between, pick, giveRate, taken, roundOf, round, after}
+use Rattle.policy.specs.Runs.{Run, begin, next, Finished}
 use Rattle.policy.proofs.Left.{not-both-ways, left-some}
 use Rattle.policy.proofs.Proper.{Proper}
-use Rattle.policy.proofs.Carry.{remaining, remaining-none}
+use Rattle.policy.proofs.Carry.{remaining-none}
 use Rattle.policy.proofs.Facts.{Facts, facts}
 use Rattle.policy.proofs.Rule.{pick-best, pick-none, best-densest, own-window}
 

@@ -1,23 +1,22 @@
 -- What rounds leave, for any run in which each round takes some densest interval: `Facts`, carried round by round.
 -- The density of a round bounds the state before it and, by Hull, after it. So what was given earlier is not lower (K1), each round's bytes are its rate
 -- times its seconds (K2), and its packets inside any interval have at most the rate times the seconds of its epochs there (H). Assumes nothing.
-use Prim.Native.Nat.{ℕ, zero, suc, _+_, _*_, _/_, _<_, _≤_, _∣_, min, max}
-use mathlib.Core.Path.{_≡_, refl, sym, ap, subst, subst₂, _∙_}
-use mathlib.Core.Bool.{Bool, true, false, not, _&&_}
-use mathlib.Core.Logic.{_⊎_, inl, inr}
+use Prim.Native.Nat.{ℕ, _+_, _*_, _/_, _<_, _≤_, _∣_, min, max}
+use mathlib.Core.Path.{_≡_, refl, sym, ap, subst₂, _∙_}
+use mathlib.Core.Bool.{Bool, true, false, _&&_}
 use native.Mathlib.Omega.{arith}
-use native.Mathlib.Decide.{decLe, decLt}
-use native.Mathlib.Nat.{le-refl, le-trans, mul-pos, mul-le-mul-left, mul-le-mul-right, le-of-mul-le-mul-right, mul-div-cancel'}
+use native.Mathlib.Decide.{decLt}
+use native.Mathlib.Nat.{le-trans, mul-pos, mul-le-mul-right, le-of-mul-le-mul-right, mul-div-cancel'}
 use Rattle.fractions.specs.Fraction.{gcd, lowestN, lowestD}
 use Rattle.fractions.proofs.Euclid.{gcd-positive}
 use Rattle.fractions.proofs.LowestTerms.{load-is, length-is, value-kept, lowest-is-lowest, lowestN-positive, lowestD-positive, lowestN-small, lowestD-small}
 use Rattle.policy.specs.Windows.{Windows, Given, none, rate, unassigned, inside, onlyIf, left, assign, sum}
 use Rattle.policy.specs.Rounds.{Day, Progress, atFirst, load, len, giveRate, taken}
-use Rattle.policy.specs.Runs.{DataInterval, Candidate, Densest, Run, begin, next}
+use Rattle.policy.specs.Runs.{Densest, Run, begin, next}
 use Rattle.policy.specs.Carried.{carries, carried, carriedInAll, priceOf, priced, inUnits}
-use Rattle.policy.proofs.Sums.{sum-at, sum-le, sum-none}
-use Rattle.policy.proofs.Left.{both, both-true, not-both-ways, inside-true, inside-is, left-some, onlyIf-le}
-use Rattle.policy.proofs.Proper.{Proper, RateInRange, mostRate}
+use Rattle.policy.proofs.Sums.{none-above, sum-at, sum-le, sum-none}
+use Rattle.policy.proofs.Left.{not-both-ways, inside-true, inside-is, left-some, onlyIf-le, onlyIf-most}
+use Rattle.policy.proofs.Proper.{Proper, RateInRange}
 use Rattle.policy.proofs.Hull.{Bounded, lowest-bounds, hull}
 use Rattle.policy.proofs.Carry.{assign-new, assign-old, assign-out, none-unassigned, carries-same, carried-after, carried-in-all-after, priced-after, remaining, remaining-fewer, remaining-most}
 
@@ -61,11 +60,7 @@ assigned (rate n d) h = (n, (d, refl))
 -- what is left is at most the whole weight
 left-all : (w : Windows) (g : ℕ → Given) (s e : ℕ) → left w g s e ≤ sum (w .count) (w .weight)
 unfolding left
-left-all w g s e = sum-le (w .count) _ _ λ i h. go (unassigned (g i) && inside w s e i) (w .weight i)
-  where
-    go : (b : Bool) (x : ℕ) → onlyIf b x ≤ x
-    go true x = unfold onlyIf in le-refl x
-    go false x = unfold onlyIf in omega arith
+left-all w g s e = sum-le (w .count) _ _ λ i h. onlyIf-most (unassigned (g i) && inside w s e i) (w .weight i)
 
 -- by what a round gives to one index: the new rate, or what it had
 data Ways (w : Windows) (s e n d : ℕ) (g : ℕ → Given) (i : ℕ) : Type 0 where
@@ -181,9 +176,9 @@ module _ (day : Day) (proper : Proper day) (done : Progress) (facts : Facts day 
   afterwards : Bounded day then' N D
   afterwards = hull day proper done s e N D (best .candidate .data-interval) tight before N D
 
-  -- what was given earlier is not lower
-  earlier : (k n d : ℕ) → k < day .epochs .count → done .epoch k ≡ rate n d → N * d ≤ n * D
-  earlier k n d h p =
+  -- densities never rise: what an epoch was given earlier is not lower
+  pub never-rises : (k n d : ℕ) → k < day .epochs .count → done .epoch k ≡ rate n d → N * d ≤ n * D
+  never-rises k n d h p =
       le-of-mul-le-mul-right {k = gcd l m}
       (omega (arith, facts .bounded k n d h p s e, ap (λ (x : ℕ). x * d) (load-is l m), ap (λ (x : ℕ). n * x) (length-is l m)))
       (gcd-positive l m long)
@@ -205,10 +200,7 @@ module _ (day : Day) (proper : Proper day) (done : Progress) (facts : Facts day 
       go : Dec (0 < len day then' s' e') → 0 < len day then' s' e'
       go (yes p) = p
       go (no p) =
-          absurd (omega (arith, afterwards s' e', mul-pos h D-some, ap (λ (x : ℕ). N * x) (nothing (len day then' s' e') p)))
-        where
-          nothing : (x : ℕ) → (0 < x → ⊥) → x ≡ 0
-          nothing x r = omega (arith, r)
+          absurd (omega (arith, afterwards s' e', mul-pos h D-some, ap (λ (x : ℕ). N * x) (none-above (len day then' s' e') p)))
 
   -- a bound at N/D is one at every rate that is not lower
   not-lower : (n d : ℕ) → N * d ≤ n * D → Bounded day then' n d
@@ -226,7 +218,7 @@ module _ (day : Day) (proper : Proper day) (done : Progress) (facts : Facts day 
           let x : N ≡ n = same-n (sym q ∙ p) in
           let y : D ≡ d = same-d (sym q ∙ p) in
           not-lower n d (omega (arith, ap (λ (z : ℕ). z * d) x, ap (λ (z : ℕ). n * z) y))
-      go (kept q) = not-lower n d (earlier k n d h (sym q ∙ p))
+      go (kept q) = not-lower n d (never-rises k n d h (sym q ∙ p))
 
   rate-of : (w : Windows) (g : ℕ → Given) (i n d : ℕ) → (g i ≡ rate n d → RateInRange n d) → assign w s e N D g i ≡ rate n d → RateInRange n d
   rate-of w g i n d old p = go (ways w s e N D g i)
@@ -257,7 +249,7 @@ module _ (day : Day) (proper : Proper day) (done : Progress) (facts : Facts day 
                 rate-n = r .0;
                 rate-d = r .1 .0;
                 given = assign-old (day .epochs) s e N D (done .epoch) k u ∙ r .1 .1;
-                not-below = omega (arith, earlier k (r .0) (r .1 .0) hk (r .1 .1), ap (λ (z : ℕ). z * r .1 .0) x, ap (λ (z : ℕ). r .0 * z) y);
+                not-below = omega (arith, never-rises k (r .0) (r .1 .0) hk (r .1 .1), ap (λ (z : ℕ). z * r .1 .0) x, ap (λ (z : ℕ). r .0 * z) y);
               }
 
       go : Ways (day .packets) s e N D (done .packet) i → AtLeast (then' .epoch k) n d

@@ -2,23 +2,23 @@
 -- A densest candidate bounds the state by its density, since any interval has the load of the smallest data interval around what it holds.
 -- Hull: if the state is bounded by N/D and [s, e) is tight, the state stays bounded after [s, e) is taken. For an interval that meets [s, e), the hull
 -- of both has at least the load of both and at most their length; for one apart nothing changes. Assumes nothing.
-use Prim.Native.Nat.{ℕ, zero, suc, _+_, _*_, _<_, _≤_, _-_, min, max}
-use mathlib.Core.Path.{_≡_, refl, sym, ap, subst, _∙_}
-use mathlib.Core.Bool.{Bool, true, false, not, _&&_}
+use Prim.Native.Nat.{ℕ, zero, suc, _*_, _<_, _≤_, _-_, min, max}
+use mathlib.Core.Path.{_≡_, refl, ap, subst}
+use mathlib.Core.Bool.{Bool, true, false, _&&_}
 use mathlib.Core.Logic.{_⊎_, inl, inr}
 use native.Mathlib.Omega.{arith}
 use native.Mathlib.Decide.{decLe, decLt}
 use native.Mathlib.Nat.{le-refl, le-trans, mul-le-mul-left, mul-le-mul-right, le-of-mul-le-mul-right}
 use Rattle.fractions.specs.Fraction.{gcd, lowestN, lowestD}
 use Rattle.fractions.proofs.Euclid.{gcd-positive}
-use Rattle.fractions.proofs.LowestTerms.{load-is, length-is, value-kept}
-use Rattle.policy.specs.Windows.{Windows, Given, none, rate, unassigned, inside, onlyIf, left, assign, sum}
-use Rattle.policy.specs.Rounds.{Day, Progress, atFirst, load, len, giveRate, taken}
+use Rattle.fractions.proofs.LowestTerms.{load-is, length-is}
+use Rattle.policy.specs.Windows.{unassigned, inside, onlyIf, left, sum}
+use Rattle.policy.specs.Rounds.{Day, Progress, load, len, giveRate}
 use Rattle.policy.specs.Runs.{DataInterval, Candidate, Densest}
 use borrow.Author.Tests.{ltb-true, lt-ltb}
 use lib.Dec.{ltb}
-use Rattle.policy.proofs.Sums.{sum-at, sum-le, sum-some}
-use Rattle.policy.proofs.Left.{both, both-true, not-both-ways, inside-true, inside-is, inside-wider, left-wider, left-within, left-some, left-fewer, hull-more, hull-less, left-apart, onlyIf-le, onlyIf-some}
+use Rattle.policy.proofs.Sums.{none-above, sum-at, sum-some}
+use Rattle.policy.proofs.Left.{both, both-true, inside-true, inside-is, left-wider, left-within, left-some, left-fewer, hull-more, hull-less, left-apart, onlyIf-le, onlyIf-some}
 use Rattle.policy.proofs.Proper.{Proper}
 
 -- the load of every interval is at most N/D times its length
@@ -107,10 +107,7 @@ densest-bounds day done s e best s' e' = go (decLt 0 (load day done s' e'))
   where
     go : Dec (0 < load day done s' e') → load day done s' e' * len day done s e ≤ load day done s e * len day done s' e'
     go (no h) =
-        omega (arith, ap (λ (x : ℕ). x * len day done s e) (nothing (load day done s' e') h))
-      where
-        nothing : (x : ℕ) → (0 < x → ⊥) → x ≡ 0
-        nothing x r = omega (arith, r)
+        omega (arith, ap (λ (x : ℕ). x * len day done s e) (none-above (load day done s' e') h))
     go (yes h) =
         let a = around day done s' e' h in
         omega (

@@ -1,26 +1,25 @@
 -- The sweep finds the pick. What it carries along is the load and the length of the definition: the bytes due up to a point are those whose deadline is not
 -- after it, and the seconds passed are those of the epochs before it. The leader stands before every interval that was seen, and in the end all were.
 -- Assumes nothing.
-use Prim.Native.Nat.{ℕ, zero, suc, pred, _+_, _-_, _*_, _<_, _≤_}
-use mathlib.Core.Path.{_≡_, refl, sym, ap, ap₂, subst, subst₂, _∙_}
-use mathlib.Core.Bool.{Bool, true, false, _&&_, _||_}
+use Prim.Native.Nat.{ℕ, zero, suc, pred, _+_, _<_, _≤_}
+use mathlib.Core.Path.{_≡_, refl, sym, ap, subst, subst₂, _∙_}
+use mathlib.Core.Bool.{Bool, true, false, _&&_}
 use mathlib.Core.List.{List}
 use mathlib.Core.Logic.{_⊎_, inl, inr}
 use native.Mathlib.Omega.{arith}
 use native.Mathlib.Decide.{decLt, decLe, ℕ-discrete}
 use lib.ListN.{getD}
 use lib.Dec.{eqb, leb, ltb}
-use borrow.Author.Tests.{ltb-true, ltb-false, leb-true, leb-false, eqb-true, eqb-false, lt-ltb, le-ltb, le-leb, lt-leb, eq-eqb, ne-eqb}
+use borrow.Author.Tests.{lt-ltb, le-ltb, le-leb, lt-leb, eq-eqb, ne-eqb}
 use Rattle.policy.specs.declared.densest.Leader.{Leader}
-use Rattle.policy.specs.Windows.{Windows, Given, unassigned, inside, onlyIf, left, sum}
+use Rattle.policy.specs.Windows.{unassigned, inside, onlyIf, left, sum}
 use Rattle.policy.specs.Rounds.{Day, Progress, load, len, Interval, nowhere, between, pick}
-use Rattle.policy.specs.Runs.{DataInterval, Candidate, Best}
+use Rattle.policy.specs.Runs.{DataInterval}
 use Rattle.policy.specs.Steps.{countedFrom, tallied, lenTo, swept, considered, led, leaderAhead}
-use Rattle.policy.proofs.Sums.{sum-eq, sum-add, sum-none, sum-cut, sum-some, sum-at}
-use Rattle.policy.proofs.Left.{both-true, not-both-ways, onlyIf-some}
+use Rattle.policy.proofs.Sums.{sum-eq, sum-add, sum-none, sum-cut}
 use Rattle.policy.proofs.Sweeping.{empty-stays, unmarked-stays, first-leads, ahead-leads, behind-stays}
-use Rattle.policy.proofs.Order.{Ahead, Behind, before-ahead, before-behind}
-use Rattle.policy.proofs.Rule.{Positive, Standing, And, Among, figures, standing-fewer, standing-best, step-empty, step-behind, step-first, step-ahead, pick-best, pick-none, best-pick}
+use Rattle.policy.proofs.Order.{before-ahead, before-behind}
+use Rattle.policy.proofs.Rule.{Positive, Standing, And, Among, figures, standing-fewer, standing-best, step-empty, step-behind, step-first, step-ahead, pick-best, best-pick}
 
 -- what the sweep is given: the packets and epochs of the day, what is left of them, and the places of the deadlines
 pub record Board (day : Day) (done : Progress) (count : ℕ) (from bytes place : List ℕ) (n : ℕ) (points room marks : List ℕ) : Type 0 where
@@ -72,11 +71,6 @@ due-up-to count from bytes place s (suc m) = more (due-up-to count from bytes pl
         (ap (λ (y : ℕ). y + sum count (λ i. onlyIf (eqb (getD place i 0) m) (x i))) h ∙
         sym (sum-add count (λ i. onlyIf (ltb (getD place i 0) m) (x i)) (λ i. onlyIf (eqb (getD place i 0) m) (x i))) ∙
         sum-eq count _ _ (λ i q. one (getD place i 0) (x i)))
-
--- two tests that hold together are equal
-same-test : (a b : Bool) → (a ≡ true → b ≡ true) → (a ≡ false → b ≡ false) → a ≡ b
-same-test true b p q = sym (p refl)
-same-test false b p q = sym (q refl)
 
 -- three tests in one
 three : (t a u : Bool) (v : ℕ) → onlyIf t (onlyIf a (onlyIf u v)) ≡ onlyIf (u && (a && t)) v

@@ -1,7 +1,7 @@
 -- The weight that is left inside an interval, as the interval grows and as rates are given. Every fact is one about a single index, by cases on
 -- its tests, lifted by a law of sums. Assumes nothing.
-use Prim.Native.Nat.{ℕ, zero, suc, _+_, _*_, _<_, _≤_}
-use mathlib.Core.Path.{_≡_, refl, sym, ap, _∙_}
+use Prim.Native.Nat.{ℕ, _+_, _<_, _≤_}
+use mathlib.Core.Path.{_≡_, refl, ap}
 use mathlib.Core.Bool.{Bool, true, false, not, _&&_}
 use mathlib.Core.Logic.{_⊎_, inl, inr}
 use native.Mathlib.Omega.{arith}
@@ -60,6 +60,12 @@ unfolding onlyIf
 onlyIf-le true true x h = le-refl x
 onlyIf-le true false x h = absurd (not-both-ways (h refl) refl)
 onlyIf-le false b x h = omega arith
+
+-- a test leaves at most the weight
+pub onlyIf-most : (b : Bool) (x : ℕ) → onlyIf b x ≤ x
+unfolding onlyIf
+onlyIf-most true x = omega arith
+onlyIf-most false x = omega arith
 
 pub onlyIf-some : (a : Bool) (x : ℕ) → 0 < onlyIf a x → (a ≡ true) × (0 < x)
 unfolding onlyIf

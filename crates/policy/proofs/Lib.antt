@@ -10,7 +10,6 @@ pub mod Rule
 pub mod Ending
 pub mod EventPoints
 pub mod Accepting
-pub mod Rating
 pub mod Sorting
 pub mod Filling
 pub mod Sweeping
@@ -18,3 +17,5 @@ pub mod Leading
 pub mod Turning
 pub mod Rows
 pub mod Answering
+pub mod Rating
+pub mod Wrong

@@ -1,16 +1,16 @@
 -- The order of the rule over plain figures: load (bytes), length (seconds), start and end (seconds) of two intervals. It is total and, where lengths are
 -- above zero, transitive: cross products are multiplied by the third length, which is then cancelled. Assumes nothing.
-use Prim.Native.Nat.{ℕ, zero, suc, _+_, _*_, _<_, _≤_}
-use mathlib.Core.Path.{_≡_, refl, sym, ap, _∙_}
+use Prim.Native.Nat.{ℕ, _*_, _<_, _≤_}
+use mathlib.Core.Path.{_≡_, refl, sym, ap}
 use mathlib.Core.Bool.{Bool, true, false, _&&_, _||_}
 use mathlib.Core.Logic.{_⊎_, inl, inr}
 use native.Mathlib.Omega.{arith}
 use native.Mathlib.Decide.{decLe}
 use native.Mathlib.Nat.{mul-le-mul-right, eq-of-mul-eq-mul-right, lt-of-mul-lt-mul-right}
 use lib.Dec.{eqb, ltb}
-use borrow.Author.Tests.{ltb-true, ltb-false, eqb-true, eqb-false, lt-ltb, le-ltb, eq-eqb, ne-eqb}
+use borrow.Author.Tests.{ltb-true, eqb-true, lt-ltb, le-ltb, eq-eqb}
 use Rattle.policy.specs.Rounds.{ahead}
-use Rattle.policy.proofs.Left.{both, both-true, not-both-ways}
+use Rattle.policy.proofs.Left.{both, not-both-ways}
 
 -- an interval with its load and length
 pub record Figures : Type 0 where

@@ -1,12 +1,11 @@
 -- Rows of three numbers, written one after the other from the front of what was lent. Assumes nothing.
-use Prim.Native.Nat.{ℕ, zero, suc, pred, _+_, _-_, _*_, _<_, _≤_}
+use Prim.Native.Nat.{ℕ, zero, suc, _+_, _*_, _<_, _≤_}
 use mathlib.Core.Path.{_≡_, refl, sym, ap, ap₂, subst, _∙_}
-use mathlib.Core.List.{List, [], _∷_, _++_, append-assoc}
+use mathlib.Core.List.{List, [], _∷_, _++_}
 use native.Mathlib.Omega.{arith}
 use native.Mathlib.Numerals.{add-one, add-two, add-three}
-use lib.ListN.{length, getD, take, drop, set, length-append, length-drop}
-use lib.Seq.{drop-cons, getD-take}
-use Rattle.packets.specs.Outcome.{Outcome, gives, refuses, refusalOf}
+use lib.ListN.{length, getD, drop, set, length-append, length-drop}
+use lib.Seq.{drop-cons}
 use Rattle.policy.specs.Windows.{Given}
 use Rattle.policy.specs.Answer.{epochNumbers, epochRows, shownN, shownD, overwritten}
 use Rattle.policy.specs.Steps.{givenIn}

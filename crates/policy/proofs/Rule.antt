@@ -1,21 +1,21 @@
 -- The pick, without recursion: it is a candidate that no candidate beats, and only one interval is so. The best so far stands before all that were
 -- seen; one more interval seen keeps it or takes its place. Assumes nothing.
-use Prim.Native.Nat.{ℕ, zero, suc, _+_, _*_, _<_, _≤_}
+use Prim.Native.Nat.{ℕ, zero, suc, _<_, _≤_}
 use mathlib.Core.Path.{_≡_, refl, sym, ap, subst, subst₂, _∙_}
-use mathlib.Core.Bool.{Bool, true, false, _&&_, _||_}
+use mathlib.Core.Bool.{Bool, true, false, _&&_}
 use mathlib.Core.Logic.{_⊎_, inl, inr}
 use native.Mathlib.Omega.{arith}
 use native.Mathlib.Decide.{decLt}
 use native.Mathlib.Nat.{le-trans, le-refl}
-use lib.Dec.{eqb, ltb}
-use borrow.Author.Tests.{ltb-true, ltb-false, lt-ltb}
+use lib.Dec.{ltb}
+use borrow.Author.Tests.{ltb-true, lt-ltb}
 use Rattle.policy.specs.Windows.{choose, left, unassigned, inside, onlyIf}
 use Rattle.policy.specs.Rounds.{Day, Progress, load, len, beats, Interval, nowhere, between, leads, better, bestFrom, bestOf, pick}
-use Rattle.policy.specs.Runs.{DataInterval, Candidate, Best, Densest, Finished}
+use Rattle.policy.specs.Runs.{DataInterval, Candidate, Best, Densest}
 use Rattle.policy.proofs.Sums.{sum-at}
-use Rattle.policy.proofs.Left.{both, both-true, not-both-ways, inside-is, onlyIf-le}
+use Rattle.policy.proofs.Left.{both-true, not-both-ways, inside-is, onlyIf-le}
 use Rattle.policy.proofs.Proper.{Proper}
-use Rattle.policy.proofs.Order.{Figures, Ahead, Behind, before, before-ahead, before-behind, behind-before, ahead-behind, behind-self, behind-trans, behind-both, behind-density}
+use Rattle.policy.proofs.Order.{Figures, Ahead, Behind, before-ahead, before-behind, behind-before, ahead-behind, behind-self, behind-trans, behind-both, behind-density}
 
 -- an interval with its load and its length
 abbrev pub figures : Day → Progress → ℕ → ℕ → Figures
@@ -214,17 +214,22 @@ module _ (day : Day) (done : Progress) (positive : Positive day done) where
 
 -- ## An unassigned packet
 
+-- an unassigned packet inside an interval is load
+pub packet-loads : (day : Day) → Proper day → (done : Progress) (s e i : ℕ) → i < day .packets .count → unassigned (done .packet i) ≡ true
+    → inside (day .packets) s e i ≡ true → 0 < load day done s e
+unfolding load left onlyIf
+packet-loads day proper done s e i h u v =
+    le-trans (proper .some-bytes i h)
+    (le-trans (onlyIf-le true (unassigned (done .packet i) && inside (day .packets) s e i) (day .packets .weight i) (λ _. both-true u v))
+    (sum-at (day .packets .count) (λ j. onlyIf (unassigned (done .packet j) && inside (day .packets) s e j) (day .packets .weight j)) i h))
+
 -- the window of an unassigned packet is a data interval that holds it
 pub own-window : (day : Day) → Proper day → (done : Progress) (i : ℕ) → i < day .packets .count → unassigned (done .packet i) ≡ true
     → Candidate day done (day .packets .from i) (day .packets .till i)
-unfolding load left onlyIf
 own-window day proper done i h u =
     record {
       data-interval = record { starter = i; starts = h; start = refl; ender = i; ends = h; end = refl };
       holds =
-          le-trans (proper .some-bytes i h)
-          (le-trans
-          (onlyIf-le true (unassigned (done .packet i) && inside (day .packets) (day .packets .from i) (day .packets .till i) i) (day .packets .weight i)
-          (λ _. both-true u (inside-is (day .packets) (day .packets .from i) (day .packets .till i) i (le-refl _) (le-refl _))))
-          (sum-at (day .packets .count) (λ j. onlyIf (unassigned (done .packet j) && inside (day .packets) (day .packets .from i) (day .packets .till i) j) (day .packets .weight j)) i h));
+          packet-loads day proper done (day .packets .from i) (day .packets .till i) i h u
+          (inside-is (day .packets) (day .packets .from i) (day .packets .till i) i (le-refl _) (le-refl _));
     }

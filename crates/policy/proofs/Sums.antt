@@ -1,7 +1,6 @@
 -- Laws of finite sums. Each goes by the number of terms. Assumes nothing.
 use Prim.Native.Nat.{ℕ, zero, suc, _+_, _*_, _<_, _≤_}
 use mathlib.Core.Path.{_≡_, refl, ap}
-use mathlib.Core.Logic.{_⊎_, inl, inr}
 use native.Mathlib.Omega.{arith}
 use native.Mathlib.Decide.{decLt, ℕ-discrete}
 use Rattle.policy.specs.Windows.{sum}
@@ -66,3 +65,13 @@ sum-cut (suc m) n f p h = go (ℕ-discrete n (suc m)) (λ (q : n ≤ m). sum-cut
     go : Dec (n ≡ suc m) → (n ≤ m → sum m f ≡ sum n f) → sum m f + f m ≡ sum n f
     go (yes e) rest = rw e refl
     go (no e) rest = omega (arith, rest (omega (arith, e)), h m (omega (arith, e)) (omega arith))
+
+-- terms of at most c
+pub sum-most : (n c : ℕ) (f : ℕ → ℕ) → ((i : ℕ) → i < n → f i ≤ c) → sum n f ≤ n * c
+unfolding sum
+sum-most zero c f h = omega arith
+sum-most (suc n) c f h = omega (arith, sum-most n c f (λ i p. h i (omega arith)), h n (omega arith))
+
+-- what is not above zero is zero
+pub none-above : (x : ℕ) → (0 < x → ⊥) → x ≡ 0
+none-above x h = omega (arith, h)

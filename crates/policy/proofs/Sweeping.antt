@@ -1,7 +1,7 @@
 -- The turns of the tally and of the sweep, over plain variables. Assumes nothing.
-use Prim.Native.Nat.{ℕ, zero, suc, pred, _+_, _-_, _*_, _^_, _<_, _≤_}
-use mathlib.Core.Path.{_≡_, refl, sym, ap, ap₂, subst, _∙_}
-use mathlib.Core.Bool.{Bool, true, false, _&&_, _||_}
+use Prim.Native.Nat.{ℕ, zero, suc, pred, _+_, _*_, _<_, _≤_}
+use mathlib.Core.Path.{_≡_, refl, sym, ap, ap₂, _∙_}
+use mathlib.Core.Bool.{true, false}
 use mathlib.Core.List.{List}
 use native.Mathlib.Omega.{arith}
 use native.Mathlib.Numerals.{add-one}
@@ -14,16 +14,12 @@ use Rattle.policy.specs.declared.densest.Leader.{Leader}
 use Rattle.policy.specs.Windows.{sum, onlyIf, choose}
 use Rattle.policy.specs.Steps.{countedFrom, tallied, grown, lenTo, swept, considered, Small, Tally, leaderAhead, led, sweptOver}
 use Rattle.policy.proofs.Sums.{sum-eq}
+use Rattle.policy.proofs.Left.{onlyIf-most}
 use Rattle.policy.proofs.Order.{Figures}
 
 -- a leader's figures
 abbrev pub figuresOf : Leader → Figures
 figuresOf x = record { start = x .start; end = x .end; load = x .load; len = x .len }
-
-pub onlyIf-most : (b : Bool) (x : ℕ) → onlyIf b x ≤ x
-unfolding onlyIf
-onlyIf-most true x = omega arith
-onlyIf-most false x = omega arith
 
 -- ## The tally
 

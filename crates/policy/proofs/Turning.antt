@@ -1,31 +1,32 @@
 -- The rounds of the code are those of the definition: what is set up makes the board of the sweep, one turn is one round, and a turn without a leader
 -- changes nothing more. Assumes nothing.
-use Prim.Native.Nat.{ℕ, zero, suc, pred, _+_, _-_, _*_, _<_, _≤_}
+use Prim.Native.Nat.{ℕ, zero, suc, pred, _+_, _-_, _<_, _≤_}
 use mathlib.Core.Path.{_≡_, refl, sym, ap, ap₂, subst, subst₂, _∙_}
 use mathlib.Core.Bool.{Bool, true, false, _&&_}
 use mathlib.Core.List.{List}
+use mathlib.Core.Logic.{_⊎_, inl, inr}
 use native.Mathlib.Omega.{arith}
-use native.Mathlib.Decide.{decLt, decLe, ℕ-discrete}
+use native.Mathlib.Decide.{decLt, ℕ-discrete}
 use native.Mathlib.Numerals.{sub-one, add-one}
 use lib.ListN.{length, getD, take, replicate, getD-replicate}
 use lib.Seq.{getD-take}
 use lib.Dec.{eqb, leb}
 use borrow.Author.Tests.{eqb-true, eq-eqb, ne-eqb, le-leb}
 use Rattle.packets.specs.Records.{sizeOf, arrivalOf, deadlineOf, Accepted}
-use Rattle.packets.specs.Limits.{airBytes, lastSecond}
+use Rattle.packets.specs.Limits.{airBytes}
 use Rattle.fractions.specs.Fraction.{lowestN, lowestD}
 use Rattle.fractions.proofs.LowestTerms.{lowestD-positive}
 use Rattle.policy.specs.declared.densest.Leader.{Leader}
-use Rattle.policy.specs.Windows.{Windows, Given, none, rate, unassigned, inside, onlyIf, choose, assign, sum}
+use Rattle.policy.specs.Figures.{mostPoints}
+use Rattle.policy.specs.Windows.{Windows, Given, none, rate, unassigned, inside, onlyIf, choose, assign}
 use Rattle.policy.specs.Points.{pointsOf, packetsOf, epochsOf}
-use Rattle.policy.specs.Rounds.{Day, Progress, atFirst, load, len, Interval, nowhere, between, pick, giveRate, taken, roundOf, round, after, dayOf, outcomeOf}
-use Rattle.policy.specs.Steps.{Spanned, neighbours, leftOver, Left, fresh, chosen, Shared, PlaceIs, Placed, Tally, tallied, countedFrom, led, givenOf, SetUp, Rated, Ready, NoGifts, LeaderIs, Taken}
-use Rattle.policy.proofs.Sums.{sum-at, sum-some}
-use Rattle.policy.proofs.Left.{onlyIf-some}
+use Rattle.policy.specs.Rounds.{Day, Progress, atFirst, load, len, nowhere, between, pick, giveRate, taken, roundOf, round, after, dayOf, outcomeOf}
+use Rattle.policy.specs.Steps.{Spanned, neighbours, leftOver, Left, fresh, chosen, Shared, PlaceIs, Placed, tallied, countedFrom, givenOf, SetUp, Rated, Ready, NoGifts, LeaderIs, Taken}
+use Rattle.policy.proofs.Sums.{none-above, sum-at, sum-some}
+use Rattle.policy.proofs.Left.{onlyIf-most, onlyIf-some}
 use Rattle.policy.proofs.EventPoints.{Has, points-rising, points-arrival, points-deadline, points-few, rising-at, rising-le}
 use Rattle.policy.proofs.Accepting.{proper, points-today, air-most}
 use Rattle.policy.proofs.Ending.{after-facts}
-use Rattle.policy.proofs.Sweeping.{onlyIf-most}
 use Rattle.policy.proofs.Leading.{Board, no-leader, leader-picked}
 use Rattle.policy.proofs.Facts.{Facts}
 
@@ -40,6 +41,11 @@ pub given-rate : (n d : ℕ) → 0 < d → givenOf n d ≡ rate n d
 unfolding givenOf
 given-rate n zero h = absurd (omega arith)
 given-rate n (suc d) h = refl
+
+pub given-form : (n d : ℕ) → ((d ≡ 0) × (givenOf n d ≡ none)) ⊎ (givenOf n d ≡ rate n d)
+unfolding givenOf
+given-form n zero = inl (refl, refl)
+given-form n (suc d) = inr refl
 
 given-chosen : (t : Bool) (n d n' d' : ℕ) → givenOf (chosen t n n') (chosen t d d') ≡ choose t (givenOf n d) (givenOf n' d')
 unfolding chosen choose
@@ -198,15 +204,12 @@ module _ (count : ℕ) (records : List ℕ) (accepted : Accepted count records) 
               placed i h .1,
               at 0 n-some,
               points-arrival count records i h .2,
-              ap (λ (k : ℕ). getD points k 0) (zero-place (getD place i 0) p),
+              ap (λ (k : ℕ). getD points k 0) (none-above (getD place i 0) p),
               rising-le P (points-rising count records) 0 (points-arrival count records i h .0) (omega arith) (points-arrival count records i h .1),
             ))
-          where
-            zero-place : (x : ℕ) → (0 < x → ⊥) → x ≡ 0
-            zero-place x q = omega (arith, q)
 
     -- a packet counts once at its own place
-    once : (i b : ℕ) → i < count → getD place i 0 ≡ b → onlyIf (eqb (getD place i 0) b) (countedFrom 0 (getD from i 0) (getD (replicate 128 1) i 0)) ≡ 1
+    once : (i b : ℕ) → i < count → getD place i 0 ≡ b → onlyIf (eqb (getD place i 0) b) (countedFrom 0 (getD from i 0) (getD (replicate mostPoints 1) i 0)) ≡ 1
     unfolding countedFrom onlyIf
     once i b h e =
         rw (eq-eqb (getD place i 0) b e, le-leb 0 (getD from i 0) (omega arith))
@@ -215,7 +218,7 @@ module _ (count : ℕ) (records : List ℕ) (accepted : Accepted count records) 
     pub marked : (b : ℕ) → b < n → (getD marks b 0 ≡ 0 → ⊥) → (j : ℕ) × (j < count) × (getD place j 0 ≡ b)
     unfolding tallied
     marked b h m =
-        let x = sum-some count (λ i. onlyIf (eqb (getD place i 0) b) (countedFrom 0 (getD from i 0) (getD (replicate 128 1) i 0)))
+        let x = sum-some count (λ i. onlyIf (eqb (getD place i 0) b) (countedFrom 0 (getD from i 0) (getD (replicate mostPoints 1) i 0)))
         (omega (arith, m, setup .marks-are .is b (omega (arith, n-most)))) in
         (x .0, x .1, eqb-true (getD place (x .0) 0) b (onlyIf-some _ _ (x .2) .0))
 
@@ -227,7 +230,7 @@ module _ (count : ℕ) (records : List ℕ) (accepted : Accepted count records) 
           m,
           setup .marks-are .is b (omega (arith, n-most)),
           once j b g e,
-          sum-at count (λ i. onlyIf (eqb (getD place i 0) b) (countedFrom 0 (getD from i 0) (getD (replicate 128 1) i 0))) j g,
+          sum-at count (λ i. onlyIf (eqb (getD place i 0) b) (countedFrom 0 (getD from i 0) (getD (replicate mostPoints 1) i 0))) j g,
         )
 
     -- the points of an epoch are points

@@ -1,29 +1,30 @@
--- The worked lists A, C, D, E and F of document 01 go through the definitions: epochs and rounds, then start, N and D of each epoch. Assumes nothing.
-use Prim.Native.Nat.{ℕ, zero, suc, pred}
+-- The worked lists A, C, D, E and F of document 01, and two more, go through the definitions: epochs and rounds, then start, N and D of each epoch.
+-- Assumes nothing.
+use Prim.Native.Nat.{ℕ}
 use mathlib.Core.Path.{_≡_, refl}
 use mathlib.Core.List.{List, [], _∷_}
 use Rattle.packets.specs.Limits.{airBytes}
-use Rattle.packets.specs.Outcome.{Outcome, gives, refuses, _when_else_, _then_, inOrder}
+use Rattle.packets.specs.Outcome.{Outcome, gives, _when_else_, _then_, inOrder}
 use Rattle.packets.specs.Records.{sizeOf, arrivalOf, deadlineOf, recordTest, recordAt, recordTests, memoryTests}
 use Rattle.fractions.specs.Fraction.{euclid, gcd, lowestN, lowestD}
 use Rattle.policy.specs.Windows.{assign, choose, inside, left, onlyIf, sum, unassigned}
 use Rattle.policy.specs.Points.{epochsOf, packetsOf, pointsOf, withPoint}
 use Rattle.policy.specs.Rounds.{after, atFirst, beats, bestFrom, bestOf, better, dayOf, giveRate, leads, len, load, outcomeOf, pick, round, roundOf, taken}
-use Rattle.policy.specs.Answer.{epochCount, epochRows, ratesAfter, ratesOf, ratesOutcome, shownD, shownN}
+use Rattle.policy.specs.Answer.{epochCount, epochRows, ratesOf, ratesOutcome, shownD, shownN}
 
 -- a list, what its call gives with room for `room` numbers, and the rows that are written
-record Case : Type 0 where
-  count : ℕ
-  records : List ℕ
-  room : ℕ
-  answer : Outcome
-  rows : List ℕ
+pub record Case : Type 0 where
+  pub count : ℕ
+  pub records : List ℕ
+  pub room : ℕ
+  pub answer : Outcome
+  pub rows : List ℕ
 
-Holds : Case → Type 0
+abbrev pub Holds : Case → Type 0
 Holds x = (ratesOutcome (x .count) (x .records) (x .room) ≡ x .answer) × (ratesOf (x .count) (x .records) ≡ x .rows)
 
 -- 3 packets, 5 epochs, 3 rounds
-abbrev A : Case
+abbrev pub A : Case
 A =
     record {
       count = 3;
@@ -34,7 +35,7 @@ A =
     }
 
 -- two packets of one window
-abbrev C : Case
+abbrev pub C : Case
 C =
     record {
       count = 2;
@@ -45,7 +46,7 @@ C =
     }
 
 -- rates 1/5 and 2
-abbrev D : Case
+abbrev pub D : Case
 D =
     record {
       count = 2;
@@ -56,7 +57,7 @@ D =
     }
 
 -- a silent epoch from 2 to 5 seconds
-abbrev E : Case
+abbrev pub E : Case
 E =
     record {
       count = 2;
@@ -67,7 +68,7 @@ E =
     }
 
 -- the whole day
-abbrev F : Case
+abbrev pub F : Case
 F =
     record {
       count = 1;
@@ -77,6 +78,28 @@ F =
       rows = 0 ∷ 4369 ∷ 5760 ∷ [];
     }
 
-worked : Holds A × Holds C × Holds D × Holds E × Holds F
-unfolding Holds airBytes _when_else_ _then_ inOrder recordAt sizeOf arrivalOf deadlineOf recordTest recordTests memoryTests euclid gcd lowestN lowestD assign choose inside left onlyIf sum unassigned epochsOf packetsOf pointsOf withPoint after atFirst beats bestFrom bestOf better dayOf giveRate leads len load outcomeOf pick round roundOf taken epochCount epochRows ratesOf ratesOutcome shownD shownN
-worked = ((refl, refl), (refl, refl), (refl, refl), (refl, refl), (refl, refl))
+-- a tie: each packet by itself and both together have one density, 1 byte per second; one round
+abbrev pub Tied : Case
+Tied =
+    record {
+      count = 2;
+      records = 1 ∷ 0 ∷ 1 ∷ 1 ∷ 1 ∷ 2 ∷ [];
+      room = 6;
+      answer = gives (2 ∷ 1 ∷ []);
+      rows = 0 ∷ 1 ∷ 1 ∷ 1 ∷ 1 ∷ 1 ∷ [];
+    }
+
+-- densities 4,166 and 25,000/6 bytes per second, which whole numbers would not tell apart
+abbrev pub Close : Case
+Close =
+    record {
+      count = 2;
+      records = 4166 ∷ 0 ∷ 1 ∷ 25000 ∷ 1 ∷ 7 ∷ [];
+      room = 6;
+      answer = gives (2 ∷ 2 ∷ []);
+      rows = 0 ∷ 4166 ∷ 1 ∷ 1 ∷ 12500 ∷ 3 ∷ [];
+    }
+
+pub worked : Holds A × Holds C × Holds D × Holds E × Holds F × Holds Tied × Holds Close
+unfolding airBytes _when_else_ _then_ inOrder recordAt sizeOf arrivalOf deadlineOf recordTest recordTests memoryTests euclid gcd lowestN lowestD assign choose inside left onlyIf sum unassigned epochsOf packetsOf pointsOf withPoint after atFirst beats bestFrom bestOf better dayOf giveRate leads len load outcomeOf pick round roundOf taken epochCount epochRows ratesOf ratesOutcome shownD shownN
+worked = ((refl, refl), (refl, refl), (refl, refl), (refl, refl), (refl, refl), (refl, refl), (refl, refl))

@@ -1,6 +1,6 @@
 -- Who carries which fraction, and what is priced by it. Weights are bytes for packets and seconds for epochs. Assumes nothing.
 use Prim.Native.Nat.{ℕ, _*_, _/_}
-use mathlib.Core.Bool.{Bool, true, false, _&&_}
+use mathlib.Core.Bool.{Bool, false, _&&_}
 use lib.Dec.{eqb}
 use Rattle.policy.specs.Windows.{Windows, Given, none, rate, inside, onlyIf, sum}
 

@@ -1,3 +1,4 @@
+pub mod Figures
 pub mod Windows
 pub mod Points
 pub mod Rounds

@@ -1,11 +1,11 @@
 -- The rounds of Densest Interval First (document 01, "Epochs and rates"). Loads are bytes, lengths seconds, rates bytes per second.
 -- Assumes nothing.
 use Prim.Native.Nat.{ℕ, zero, suc, _*_}
-use mathlib.Core.Bool.{Bool, true, false, _&&_, _||_}
+use mathlib.Core.Bool.{Bool, true, _&&_, _||_}
 use mathlib.Core.List.{List}
 use lib.Dec.{eqb, ltb}
 use Rattle.fractions.specs.Fraction.{lowestN, lowestD}
-use Rattle.policy.specs.Windows.{Windows, Given, none, rate, left, assign, choose}
+use Rattle.policy.specs.Windows.{Windows, Given, none, left, assign, choose}
 use Rattle.policy.specs.Points.{pointsOf, packetsOf, epochsOf}
 
 -- what the rounds work on: the packets and the epochs

@@ -2,7 +2,7 @@
 -- Document 01's rounds are one such run. Assumes nothing.
 use Prim.Native.Nat.{ℕ, _*_, _<_, _≤_}
 use mathlib.Core.Path.{_≡_}
-use mathlib.Core.Bool.{Bool, true, false}
+use mathlib.Core.Bool.{false}
 use Rattle.policy.specs.Windows.{unassigned}
 use Rattle.policy.specs.Rounds.{Day, Progress, atFirst, load, len, beats, taken}
 

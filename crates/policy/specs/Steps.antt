@@ -1,15 +1,16 @@
 -- What the functions under the public operation give, as definitions that follow the code. The promise of the public operation does not rest on them.
 -- Seconds and bytes. Assumes nothing.
-use Prim.Native.Nat.{ℕ, zero, suc, pred, _+_, _-_, _*_, _^_, _<_, _≤_}
+use Prim.Native.Nat.{ℕ, zero, suc, pred, _+_, _-_, _^_, _<_, _≤_}
 use mathlib.Core.Path.{_≡_}
-use mathlib.Core.Bool.{Bool, true, false, _&&_, _||_}
+use mathlib.Core.Bool.{Bool, _&&_, _||_}
 use mathlib.Core.List.{List}
 use lib.ListN.{getD, length, take, replicate}
 use lib.Dec.{eqb, leb, ltb}
-use Rattle.packets.specs.Limits.{lastSecond}
+use Rattle.packets.specs.Limits.{lastSecond, mostPackets}
 use Rattle.packets.specs.Records.{arrivalOf, deadlineOf}
 use Rattle.fractions.specs.Fraction.{lowestN, lowestD}
 use Rattle.policy.specs.declared.densest.Leader.{Leader}
+use Rattle.policy.specs.Figures.{largestAir, mostBytes, mostPoints}
 use Rattle.policy.specs.Points.{pointsOf, packetsOf}
 use Rattle.policy.specs.Rounds.{ahead, outcomeOf}
 use Rattle.policy.specs.Windows.{Windows, Given, none, rate, choose, onlyIf, sum}
@@ -85,12 +86,35 @@ tallied count from weights place s c =
 
 -- the tally of each place
 pub record Tally (count : ℕ) (from weights place : List ℕ) (s : ℕ) (due : List ℕ) : Type 0 where
-  pub is : (c : ℕ) → c < 128 → getD due c 0 ≡ tallied count from weights place s c
+  pub is : (c : ℕ) → c < mostPoints → getD due c 0 ≡ tallied count from weights place s c
 
 -- load and length whose cross products fit 64 bits
 pub record Small (x : Leader) : Type 0 where
   pub load : x .load < 2 ^ 32
   pub len : x .len < 2 ^ 32
+
+-- figures within which a round's sums fit
+pub record Ready (count n : ℕ) (bytes seconds place : List ℕ) : Type 0 where
+  pub few : count ≤ mostPackets
+  pub some : 0 < n
+  pub most : n ≤ mostPoints
+  pub bytes-most : (i : ℕ) → i < count → getD bytes i 0 ≤ largestAir
+  pub seconds-most : (k : ℕ) → k < pred n → getD seconds k 0 ≤ lastSecond
+  pub place-in : (i : ℕ) → i < count → getD place i 0 < mostPoints
+
+-- figures within which a tally fits
+pub record TallyFits (count : ℕ) (weights place : List ℕ) : Type 0 where
+  pub few : count ≤ mostPackets
+  pub place-in : (i : ℕ) → i < count → getD place i 0 < mostPoints
+  pub weights-most : (i : ℕ) → i < count → getD weights i 0 ≤ largestAir
+
+-- figures within which a sweep fits
+pub record SweepFits (n : ℕ) (room due : List ℕ) (best : Leader) : Type 0 where
+  pub some : 0 < n
+  pub most : n ≤ mostPoints
+  pub room-most : (k : ℕ) → k < pred n → getD room k 0 ≤ lastSecond
+  pub due-most : (c : ℕ) → c < mostPoints → getD due c 0 ≤ mostBytes
+  pub best-small : Small best
 
 -- the rule over two leaders
 unfoldable pub leaderAhead : Leader → Leader → Bool
@@ -146,21 +170,12 @@ pub record SetUp (count : ℕ) (records : List ℕ) (n : ℕ) (points from till 
   pub packets-are : Spanned (packetsOf count records) from till bytes
   pub epochs-are : Spanned (neighbours (pred n) points) points ends seconds
   pub places-are : Placed count till n points place
-  pub marks-are : Tally count from (replicate 128 1) place 0 marks
-
--- figures within which a round's sums fit
-pub record Ready (count n : ℕ) (bytes seconds place : List ℕ) : Type 0 where
-  pub few : count ≤ 64
-  pub some : 0 < n
-  pub most : n ≤ 128
-  pub bytes-most : (i : ℕ) → i < count → getD bytes i 0 ≤ 65535
-  pub seconds-most : (k : ℕ) → k < pred n → getD seconds k 0 ≤ 86400
-  pub place-in : (i : ℕ) → i < count → getD place i 0 < 128
+  pub marks-are : Tally count from (replicate mostPoints 1) place 0 marks
 
 -- no rate yet
 pub record NoGifts (packet-d epoch-d : List ℕ) : Type 0 where
-  pub packets : (i : ℕ) → i < 128 → getD packet-d i 0 ≡ 0
-  pub epochs : (k : ℕ) → k < 128 → getD epoch-d k 0 ≡ 0
+  pub packets : (i : ℕ) → i < mostPoints → getD packet-d i 0 ≡ 0
+  pub epochs : (k : ℕ) → k < mostPoints → getD epoch-d k 0 ≡ 0
 
 -- r leads what is left of the packets and of the epochs
 pub record LeaderIs (count n : ℕ) (points from bytes seconds place marks packet-d epoch-d : List ℕ) (r : Leader) : Type 0 where

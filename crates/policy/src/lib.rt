@@ -11,6 +11,7 @@ ghost use Prim.Native.Nat.{_*_, _≤_};
 ghost use lib.ListN.{length};
 ghost use Rattle.packets.specs.Records.{Accepted};
 ghost use Rattle.policy.specs.Answer.{EpochsRated, epochNumbers, epochRateOf, epochRows, overwritten, shownD, shownN};
+ghost use Rattle.policy.specs.Figures.{mostPoints};
 ghost use Rattle.policy.specs.Steps.{givenIn, givenOf};
 use crate::rates::rates_of;
 use fractions::Rate;
@@ -70,7 +71,7 @@ fn judged_rates(count: usize, records: &[u64], rates: &mut [u64]) -> RatesAnswer
 
 // Start, N and D of each epoch, from the front of the lent room.
 fn write_rows(epochs: usize, points: [u64; 128], n: [u64; 128], d: [u64; 128], rates: &mut [u64])
-    requires { ⌜ (epochNumbers * epochs ≤ length (now rates)) × (epochs ≤ 128) ⌝ }
+    requires { ⌜ (epochNumbers * epochs ≤ length (now rates)) × (epochs ≤ mostPoints) ⌝ }
     ensures { λ r. ⌜ now (rates .exit) ≡ overwritten (epochRows points (givenIn n d) epochs) (now (rates .entry)) ⌝ }
 {
     let mut k = 0;

@@ -1,7 +1,8 @@
 // The rounds: each takes the densest interval and gives its packets and epochs its density, until no packet is unassigned.
-ghost use mathlib.Core.Path.{_≡_};
 ghost use Prim.Native.Nat.{_<_, _≤_};
+ghost use Rattle.packets.specs.Limits.{mostPackets};
 ghost use Rattle.packets.specs.Records.{Accepted};
+ghost use Rattle.policy.specs.Figures.{mostPoints};
 ghost use Rattle.policy.specs.Steps.{LeaderIs, NoGifts, Rated, Ready, SetUp, Taken};
 use crate::densest::Leader;
 use crate::densest::densest;
@@ -151,7 +152,7 @@ fn leader_of(count: usize, setup: Setup, gifts: Gifts) -> Leader
 
 // The round takes the leader: what it holds is given its load over its length in lowest terms.
 fn take(count: usize, setup: Setup, gifts: Gifts, leader: Leader) -> Gifts
-    requires { ⌜ (count ≤ 64) × (0 < setup .n) × (setup .n ≤ 128) × (0 < leader .len) ⌝ }
+    requires { ⌜ (count ≤ mostPackets) × (0 < setup .n) × (setup .n ≤ mostPoints) × (0 < leader .len) ⌝ }
     ensures { λ r. ⌜ Taken count (setup .n) (setup .points) (setup .from) (setup .till) (setup .ends) (gifts .packets .n) (gifts .packets .d) (gifts .epochs .n) (gifts .epochs .d) leader (r .packets .n) (r .packets .d) (r .epochs .n) (r .epochs .d) ⌝ }
 {
     let n = setup.n;

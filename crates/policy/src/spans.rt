@@ -1,8 +1,9 @@
 // Packets and epochs alike: windows with a weight (bytes or seconds), of which some have a rate. What a round does to them.
 ghost use mathlib.Core.Path.{_≡_};
-ghost use Prim.Native.Nat.{ℕ, suc, _+_, _-_, _*_, _<_, _≤_};
+ghost use Prim.Native.Nat.{ℕ, suc, _*_, _<_, _≤_};
 ghost use lib.ListN.{length, getD};
 ghost use Rattle.packets.specs.Records.{recordNumbers};
+ghost use Rattle.policy.specs.Figures.{mostPoints};
 ghost use Rattle.policy.specs.Points.{packetsOf};
 ghost use Rattle.policy.specs.Steps.{Spanned, Left, Shared, neighbours, leftOver, fresh, chosen};
 use crate::packet::air_size;
@@ -25,7 +26,7 @@ pub struct Shares {
 
 // The packets' windows and bytes on the air.
 pub fn packet_spans(count: usize, records: &[u64]) -> Spans
-    requires { ⌜ (recordNumbers * count ≤ length (now records)) × (count ≤ 128) ⌝ }
+    requires { ⌜ (recordNumbers * count ≤ length (now records)) × (count ≤ mostPoints) ⌝ }
     ensures { λ r. ⌜ Spanned (packetsOf count (now (records .entry))) (r .from) (r .till) (r .weight) ⌝ }
 {
     let mut from = [0u64; 128];
@@ -43,7 +44,7 @@ pub fn packet_spans(count: usize, records: &[u64]) -> Spans
 
 // The epochs' windows and seconds, between neighbouring points.
 pub fn epoch_spans(epochs: usize, points: [u64; 128]) -> Spans
-    requires { ⌜ (epochs < 128) × ((k : ℕ) → k < epochs → getD points k 0 ≤ getD points (suc k) 0) ⌝ }
+    requires { ⌜ (epochs < mostPoints) × ((k : ℕ) → k < epochs → getD points k 0 ≤ getD points (suc k) 0) ⌝ }
     ensures { λ r. ⌜ Spanned (neighbours epochs points) (r .from) (r .till) (r .weight) ⌝ }
 {
     let mut till = [0u64; 128];
@@ -63,7 +64,7 @@ pub fn epoch_spans(epochs: usize, points: [u64; 128]) -> Spans
 
 // What is left of each weight: nothing of those that have a rate.
 pub fn left_weights(count: usize, weight: [u64; 128], d: [u64; 128]) -> [u64; 128]
-    requires { ⌜ count ≤ 128 ⌝ }
+    requires { ⌜ count ≤ mostPoints ⌝ }
     ensures { λ r. ⌜ Left count weight d r ⌝ }
 {
     let mut left = [0u64; 128];
@@ -94,7 +95,7 @@ pub fn give(
     e: u64,
     rate: Rate,
 ) -> Shares
-    requires { ⌜ count ≤ 128 ⌝ }
+    requires { ⌜ count ≤ mostPoints ⌝ }
     ensures { λ r. ⌜ Shared count from till (shares .n) (shares .d) s e (rate .n) (rate .d) (r .n) (r .d) ⌝ }
 {
     let mut n = shares.n;

@@ -14,7 +14,8 @@ use Rattle.policy.specs.Rounds.{dayOf, outcomeOf}
 use Rattle.policy.specs.Carried.{priceOf, priced}
 use Rattle.policy.specs.Answer.{shownD}
 use Rattle.policy.specs.Steps.{givenIn, givenOf}
-use Rattle.policy.proofs.Accepting.{air-most, largestAir}
+use Rattle.policy.specs.Figures.{largestAir}
+use Rattle.policy.proofs.Accepting.{air-most}
 use Rattle.policy.proofs.Proper.{RateInRange}
 use Rattle.policy.proofs.Facts.{assigned}
 use Rattle.timetable.specs.Setting.{setting}

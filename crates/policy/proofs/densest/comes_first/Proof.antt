@@ -4,7 +4,7 @@ use Rattle.policy.proofs.Sweeping.{figuresOf}
 use Rattle.policy.proofs.Order.{ahead-before, behind-before}
 use Rattle.policy.specs.Steps.{leaderAhead}
 use native.Mathlib.Omega.{arith}
-use mathlib.Core.Logic.{_⊎_, inl, inr}
+use mathlib.Core.Logic.{inl, inr}
 use mathlib.Core.Path.{sym}
 use borrow.Author.Needs.{needs}
 use Rattle.policy.proofs.densest.comes_first.Statement.{statement}

@@ -1,7 +1,7 @@
 -- `policy::densest::densest` meets its contract. The invariant: the leader is that of the first i arrivals, and its cross products fit. Assumes nothing.
 use lib.ListN.{getD}
 use native.Mathlib.Omega.{arith}
-use Prim.Native.Nat.{ℕ, _-_, _≤_}
+use Prim.Native.Nat.{_-_, _≤_}
 use mathlib.Core.Path.{_≡_, refl, ap, _∙_}
 use Rattle.policy.specs.Steps.{led, Small}
 use Rattle.policy.proofs.Sweeping.{led-next, tally-most}
@@ -26,10 +26,10 @@ element-copy-out-s : tie.Need-element-copy-out-s Inv-loop μ-loop
 element-copy-out-s c = search needs
 
 tally-requires : tie.Need-tally-requires Inv-loop μ-loop
-tally-requires c κs = (c .before .before .before .pre .0, c .before .before .before .pre .3, c .before .before .before .pre .4)
+tally-requires c κs = record { few = c .before .before .before .pre .few; place-in = c .before .before .before .pre .place-in; weights-most = c .before .before .before .pre .bytes-most }
 
 sweep-requires : tie.Need-sweep-requires Inv-loop μ-loop
-sweep-requires c κs = (c .before .before .before .before .before .pre .1, c .before .before .before .before .before .pre .2, c .before .before .before .before .before .pre .5, tally-most (c .before .before .before .before .before .args .from .now) (c .before .before .before .before .before .args .bytes .now) (c .before .before .before .before .before .args .place .now) (getD (c .before .before .before .before .before .args .from .now) (c .before .before .before .before .loop .i) 0) (c .before .tally .result) (c .before .before .before .before .before .args .count) (c .before .tally .ensures) (c .before .before .before .before .before .pre .0) (c .before .before .before .before .before .pre .4), c .before .before .before .before .loop .inv .2)
+sweep-requires c κs = record { some = c .before .before .before .before .before .pre .some; most = c .before .before .before .before .before .pre .most; room-most = c .before .before .before .before .before .pre .seconds-most; due-most = tally-most (c .before .before .before .before .before .args .from .now) (c .before .before .before .before .before .args .bytes .now) (c .before .before .before .before .before .args .place .now) (getD (c .before .before .before .before .before .args .from .now) (c .before .before .before .before .loop .i) 0) (c .before .tally .result) (c .before .before .before .before .before .args .count) (c .before .tally .ensures) (c .before .before .before .before .before .pre .few) (c .before .before .before .before .before .pre .bytes-most); best-small = c .before .before .before .before .loop .inv .2 }
 
 add-i : tie.Need-add-i Inv-loop μ-loop
 add-i c = search needs
@@ -38,7 +38,7 @@ loop-less : tie.Need-loop-less Inv-loop μ-loop
 loop-less c = search needs
 
 loop-again : tie.Need-loop-again Inv-loop μ-loop
-loop-again c = (omega arith, led-next _ _ _ _ _ _ _ _ _ _ _ _ (c .before .before .before .before .before .before .pre .2) (c .before .before .tally .ensures) (c .before .before .before .before .before .loop .inv .1) (c .sweep .ensures .0), c .sweep .ensures .1)
+loop-again c = (omega arith, led-next _ _ _ _ _ _ _ _ _ _ _ _ (c .before .before .before .before .before .before .pre .most) (c .before .before .tally .ensures) (c .before .before .before .before .before .loop .inv .1) (c .sweep .ensures .0), c .sweep .ensures .1)
 
 returns : tie.Need-returns Inv-loop μ-loop
 returns c = c .before .loop .inv .1 ∙ ap (led _ _ _ _ _ _ _ _) (omega arith)

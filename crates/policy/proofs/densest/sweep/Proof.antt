@@ -5,7 +5,7 @@ use lib.ListN.{getD}
 use Rattle.policy.specs.Steps.{swept}
 use Rattle.policy.proofs.Sweeping.{grown-most}
 use native.Mathlib.Omega.{arith}
-use Prim.Native.Nat.{ℕ, _-_, _≤_, _<_}
+use Prim.Native.Nat.{_-_, _≤_, _<_}
 use mathlib.Core.Path.{refl}
 use Rattle.policy.specs.Steps.{sweptOver}
 use Rattle.policy.proofs.Sweeping.{SweptSoFar, swept-first, swept-next}
@@ -23,7 +23,7 @@ element-copy-out-load : tie.Need-element-copy-out-load Inv-loop μ-loop
 element-copy-out-load c = search needs
 
 loop-holds : tie.Need-loop-holds Inv-loop μ-loop
-loop-holds c = (c .before .pre .0, swept-first _ _ _ _ _ _ _ (c .before .pre .4) refl (c .before .pre .3 0 (omega arith)))
+loop-holds c = (c .before .pre .some, swept-first _ _ _ _ _ _ _ (c .before .pre .best-small) refl (c .before .pre .due-most 0 (omega arith)))
 
 add-loop : tie.Need-add-loop Inv-loop μ-loop
 add-loop c = omega arith
@@ -42,14 +42,14 @@ element-copy-out-grow-2 c = search needs
 
 -- an epoch's seconds
 seconds : (c : tie.In-loop Inv-loop μ-loop) → getD (c .before .before .before .args .room .now) (c .before .loop .b) 0 ≤ 86400
-seconds c = c .before .before .before .pre .2 _ (omega (arith, c .loop-test .taken))
+seconds c = c .before .before .before .pre .room-most _ (omega (arith, c .loop-test .taken))
 
 -- a point's bytes
 bytes : (c : tie.In-loop Inv-loop μ-loop) → getD (c .before .before .before .args .due .now) (c .before .loop .b + 1) 0 ≤ 4194240
-bytes c = c .before .before .before .pre .3 _ (omega (arith, c .loop-test .taken, c .before .before .before .pre .1))
+bytes c = c .before .before .before .pre .due-most _ (omega (arith, c .loop-test .taken, c .before .before .before .pre .most))
 
 grow-requires : tie.Need-grow-requires Inv-loop μ-loop
-grow-requires c κs = (omega (arith, c .before .before .before .loop .inv .1 .len-most, c .before .before .loop-test .taken, c .before .before .before .before .before .pre .1), omega (arith, seconds (c .before .before)))
+grow-requires c κs = (omega (arith, c .before .before .before .loop .inv .1 .len-most, c .before .before .loop-test .taken, c .before .before .before .before .before .pre .most), omega (arith, seconds (c .before .before)))
 
 add-b : tie.Need-add-b Inv-loop μ-loop
 add-b c = search needs
@@ -61,7 +61,7 @@ element-copy-out-load-2 : tie.Need-element-copy-out-load-2 Inv-loop μ-loop
 element-copy-out-load-2 c = search needs
 
 add-load : tie.Need-add-load Inv-loop μ-loop
-add-load c = omega (arith, bytes (c .before .before .before .before), c .before .before .before .before .before .loop .inv .1 .load-most, c .before .before .before .before .loop-test .taken, c .before .before .before .before .before .before .before .pre .1)
+add-load c = omega (arith, bytes (c .before .before .before .before), c .before .before .before .before .before .loop .inv .1 .load-most, c .before .before .before .before .loop-test .taken, c .before .before .before .before .before .before .before .pre .most)
 
 mul-contest : tie.Need-mul-contest Inv-loop μ-loop
 mul-contest c = search needs
@@ -76,7 +76,7 @@ element-copy-out-contest-2 : tie.Need-element-copy-out-contest-2 Inv-loop μ-loo
 element-copy-out-contest-2 c = search needs
 
 contest-requires : tie.Need-contest-requires Inv-loop μ-loop
-contest-requires c κs = (c .before .before .before .before .before .before .before .loop .inv .1 .small, omega (arith, bytes (c .before .before .before .before .before .before), c .before .before .before .before .before .before .before .loop .inv .1 .load-most, c .before .before .before .before .before .before .loop-test .taken, c .before .before .before .before .before .before .before .before .before .pre .1), omega (arith, c .before .before .before .grow .ensures, grown-most (c .before .before .before .before .before .before .before .loop .len) (c .before .before .before .before .before .before .before .before .before .args .s) (getD (c .before .before .before .before .before .before .before .before .before .args .points .now) (c .before .before .before .before .before .before .before .loop .b) 0) (getD (c .before .before .before .before .before .before .before .before .before .args .room .now) (c .before .before .before .before .before .before .before .loop .b) 0), seconds (c .before .before .before .before .before .before), c .before .before .before .before .before .before .before .loop .inv .1 .len-most, c .before .before .before .before .before .before .loop-test .taken, c .before .before .before .before .before .before .before .before .before .pre .1))
+contest-requires c κs = (c .before .before .before .before .before .before .before .loop .inv .1 .small, omega (arith, bytes (c .before .before .before .before .before .before), c .before .before .before .before .before .before .before .loop .inv .1 .load-most, c .before .before .before .before .before .before .loop-test .taken, c .before .before .before .before .before .before .before .before .before .pre .most), omega (arith, c .before .before .before .grow .ensures, grown-most (c .before .before .before .before .before .before .before .loop .len) (c .before .before .before .before .before .before .before .before .before .args .s) (getD (c .before .before .before .before .before .before .before .before .before .args .points .now) (c .before .before .before .before .before .before .before .loop .b) 0) (getD (c .before .before .before .before .before .before .before .before .before .args .room .now) (c .before .before .before .before .before .before .before .loop .b) 0), seconds (c .before .before .before .before .before .before), c .before .before .before .before .before .before .before .loop .inv .1 .len-most, c .before .before .before .before .before .before .loop-test .taken, c .before .before .before .before .before .before .before .before .before .pre .most))
 
 loop-less : tie.Need-loop-less Inv-loop μ-loop
 loop-less c = omega arith

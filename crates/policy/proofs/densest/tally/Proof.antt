@@ -3,7 +3,7 @@ use Prim.Native.Nat.{_<_}
 use lib.ListN.{getD, getD-replicate}
 use Rattle.policy.proofs.Sweeping.{due-most, tallied-last}
 use native.Mathlib.Omega.{arith}
-use Prim.Native.Nat.{ℕ, _-_, _≤_}
+use Prim.Native.Nat.{_-_, _≤_}
 use mathlib.Core.Path.{refl}
 use Rattle.policy.proofs.Sweeping.{TalliedSoFar, tallied-first, tallied-next}
 use borrow.Author.Needs.{needs}
@@ -43,7 +43,7 @@ counted-from-requires c κs = search needs
 -- the place is within the array
 within : (c : tie.After-counted-from Inv-loop μ-loop)
     → getD (c .before .before .before .before .before .before .args .place .now) (c .before .before .before .before .before .loop .i) 0 < 128
-within c = c .before .before .before .before .before .before .pre .1 _ (c .before .before .before .before .loop-test .taken)
+within c = c .before .before .before .before .before .before .pre .place-in _ (c .before .before .before .before .loop-test .taken)
 
 mul-due : tie.Need-mul-due Inv-loop μ-loop
 mul-due c = omega (arith, within c)
@@ -52,7 +52,7 @@ array-read-due : tie.Need-array-read-due Inv-loop μ-loop
 array-read-due c = within c
 
 add-due : tie.Need-add-due Inv-loop μ-loop
-add-due c = omega (arith, due-most _ _ _ _ _ _ _ _ _ (c .before .before .before .before .before .loop .inv .1) (c .before .before .before .before .loop-test .taken) (c .before .before .before .before .before .before .pre .0) (c .before .before .before .before .before .before .pre .2) (within c) (c .counted-from .ensures))
+add-due c = omega (arith, due-most _ _ _ _ _ _ _ _ _ (c .before .before .before .before .before .loop .inv .1) (c .before .before .before .before .loop-test .taken) (c .before .before .before .before .before .before .pre .few) (c .before .before .before .before .before .before .pre .weights-most) (within c) (c .counted-from .ensures))
 
 mul-due-2 : tie.Need-mul-due-2 Inv-loop μ-loop
 mul-due-2 c = omega (arith, within c)

@@ -14,7 +14,7 @@ left-weights-requires-2 : tie.Need-left-weights-requires-2
 left-weights-requires-2 c κs = omega (arith, c .before .before .before .before .before .before .before .pre .most)
 
 densest-requires : tie.Need-densest-requires
-densest-requires c κs = (c .before .before .before .before .before .before .before .before .before .before .before .before .before .before .before .before .before .before .pre .few, c .before .before .before .before .before .before .before .before .before .before .before .before .before .before .before .before .before .before .pre .some, c .before .before .before .before .before .before .before .before .before .before .before .before .before .before .before .before .before .before .pre .most, c .before .before .before .before .before .before .before .before .before .before .before .before .before .before .before .before .before .before .pre .place-in, left-most _ _ _ _ _ (c .before .before .before .before .before .before .before .before .before .before .before .before .before .before .before .before .before .before .pre .bytes-most) (c .before .before .before .before .before .before .before .before .before .before .before .left-weights .ensures), left-most _ _ _ _ _ (c .before .before .before .before .before .before .before .before .before .before .before .before .before .before .before .before .before .before .pre .seconds-most) (left-one-less _ _ _ _ (c .before .before .before .before .before .before .before .before .before .before .left-weights2 .ensures)))
+densest-requires c κs = record { few = c .before .before .before .before .before .before .before .before .before .before .before .before .before .before .before .before .before .before .pre .few; some = c .before .before .before .before .before .before .before .before .before .before .before .before .before .before .before .before .before .before .pre .some; most = c .before .before .before .before .before .before .before .before .before .before .before .before .before .before .before .before .before .before .pre .most; bytes-most = left-most _ _ _ _ _ (c .before .before .before .before .before .before .before .before .before .before .before .before .before .before .before .before .before .before .pre .bytes-most) (c .before .before .before .before .before .before .before .before .before .before .before .left-weights .ensures); seconds-most = left-most _ _ _ _ _ (c .before .before .before .before .before .before .before .before .before .before .before .before .before .before .before .before .before .before .pre .seconds-most) (left-one-less _ _ _ _ (c .before .before .before .before .before .before .before .before .before .before .left-weights2 .ensures)); place-in = c .before .before .before .before .before .before .before .before .before .before .before .before .before .before .before .before .before .before .pre .place-in }
 
 returns : tie.Need-returns
 returns c = record { bytes-left = _; seconds-left = _; bytes-kept = c .before .before .before .before .before .before .before .before .before .before .before .before .left-weights .ensures; seconds-kept = left-one-less _ _ _ _ (c .before .before .before .before .before .before .before .before .before .before .before .left-weights2 .ensures); leads = c .densest .ensures }

@@ -5,7 +5,7 @@ use lib.ListN.{getD, replicate, getD-replicate}
 use native.Mathlib.Nat.{le-of-lt}
 use Rattle.policy.specs.Points.{packetsOf}
 use Rattle.policy.proofs.Turning.{epochs-set}
-use Prim.Native.Nat.{ℕ, _-_, _≤_, _<_}
+use Prim.Native.Nat.{ℕ, _≤_, _<_}
 use native.Mathlib.Omega.{arith}
 use Rattle.policy.proofs.Turning.{points-some, points-most, point-rises, place-found}
 use borrow.Author.Needs.{needs}
@@ -42,7 +42,7 @@ placed c i h =
     )
 
 tally-requires : tie.Need-tally-requires
-tally-requires c κs = (c .before .before .before .before .before .before .before .before .before .before .before .before .before .before .before .before .pre .few, placed c, λ i h. ones i (omega (arith, c .before .before .before .before .before .before .before .before .before .before .before .before .before .before .before .before .pre .few, h)))
+tally-requires c κs = record { few = c .before .before .before .before .before .before .before .before .before .before .before .before .before .before .before .before .pre .few; place-in = placed c; weights-most = λ i h. ones i (omega (arith, c .before .before .before .before .before .before .before .before .before .before .before .before .before .before .before .before .pre .few, h)) }
 
 returns : tie.Need-returns
 returns c = record { points-are = c .before .before .before .before .before .before .before .before .before .before .before .before .before .before .before .event-points .ensures .0; n-is = c .before .before .before .before .before .before .before .before .before .before .before .before .before .before .before .event-points .ensures .1; packets-are = c .before .before .before .before .before .before .before .before .before .before .before .before .before .packet-spans .ensures; epochs-are = epochs-set _ _ _ _ _ (c .before .before .before .before .before .before .before .before .before .epoch-spans .ensures); places-are = c .before .before .before .before .places .ensures; marks-are = c .tally .ensures }

@@ -2,7 +2,7 @@
 use native.Mathlib.Numerals.{add-one}
 use lib.ListN.{getD}
 use native.Mathlib.Omega.{arith}
-use Prim.Native.Nat.{ℕ, suc, _-_, _≤_}
+use Prim.Native.Nat.{suc, _-_, _≤_}
 use mathlib.Core.Path.{refl}
 use Rattle.policy.specs.Steps.{neighbours}
 use Rattle.policy.proofs.Filling.{Filled, filled-none, filled-more}

@@ -2,8 +2,7 @@
 use Rattle.policy.proofs.Filling.{gift}
 use lib.ListN.{getD}
 use native.Mathlib.Omega.{arith}
-use Prim.Native.Nat.{ℕ, suc, _-_, _≤_}
-use mathlib.Core.Path.{refl}
+use Prim.Native.Nat.{_-_, _≤_}
 use Rattle.policy.specs.Steps.{fresh, chosen}
 use Rattle.policy.proofs.Filling.{Halfway, halfway-none, halfway-more}
 use borrow.Author.Needs.{needs}

@@ -1,7 +1,7 @@
 -- `policy::spans::left_weights` meets its contract. The invariant: what is left of the first i weights is filled in. Assumes nothing.
 use lib.ListN.{getD}
 use native.Mathlib.Omega.{arith}
-use Prim.Native.Nat.{ℕ, _-_, _≤_}
+use Prim.Native.Nat.{_-_, _≤_}
 use mathlib.Core.Path.{refl}
 use Rattle.policy.specs.Steps.{leftOver}
 use Rattle.policy.proofs.Filling.{Filled, filled-none, filled-more}

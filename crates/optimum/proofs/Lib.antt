@@ -1,0 +1,11 @@
+pub mod Sums
+pub mod Squares
+pub mod LowerBound
+pub mod Totals
+pub mod Slots
+pub mod CommonUnits
+pub mod Rates
+pub mod Rounding
+pub mod Stretches
+pub mod ExactRival
+pub mod Lists

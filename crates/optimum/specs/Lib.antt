@@ -1,0 +1,2 @@
+pub mod Rival
+pub mod Optimum

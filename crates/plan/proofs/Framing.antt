@@ -1,0 +1,237 @@
+-- Laws of the plan in a frame: the bits that it takes, what an answer that gives values tells, and what every buffer then holds. Assumes nothing.
+use Prim.Native.Nat.{ℕ, zero, suc, _+_, _-_, _*_, _/_, _<_, _≤_, _^_}
+use mathlib.Core.Path.{_≡_, refl, sym, ap, _∙_}
+use mathlib.Core.List.{List, [], _∷_, _++_, append-nil}
+use native.Mathlib.Omega.{arith}
+use native.Mathlib.Nat.{zero-add}
+use lib.ListN.{length, getD, take, drop, length-drop, drop-of-length-le}
+use lib.Seq.{sets, sets-eq, take-all}
+use lib.Dec.{eqb, ltb, leb}
+use borrow.Author.Tests.{eqb-false, ltb-false, leb-false, eq-eqb, ne-eqb, lt-ltb, le-ltb, lt-leb}
+use Rattle.bits.specs.Field.{fieldAt}
+use Rattle.bits.specs.Table.{total, rows, fieldsAt, unusedBits, fieldWidths, tableBytes, unusedAt, writeTable, AtMost}
+use Rattle.bits.proofs.Tables.{total-rows, length-rows, length-fields}
+use Rattle.packets.specs.Outcome.{Outcome, gives, refuses, _when_else_, _then_, refusalOf}
+use Rattle.packets.specs.declared.refusal.Refusal.{Refusal}
+use Rattle.packets.specs.declared.refusal.Refusal.the-variants.{Short, NoRoom}
+use Rattle.packets.proofs.Outcomes.{when-gives, then-gives, refused-then, passed-then, given-leaves, refused-leaves}
+use Rattle.plan.specs.Entries.{mostEntries, entryNumbers, entryWidths, entryTests}
+use Rattle.plan.specs.Frame.{headBytes, countWidth, costWidth, headWidths, frameBytes, countOn, costOn, entriesOn, unusedOn, wireTests, roomTest, readOutcome, entriesAfter, memoryTests, writeOutcome, framed, frameAfter}
+use Rattle.plan.proofs.Judging.{tests-pass}
+
+-- ---- the bits of a plan
+
+entry-total : total entryWidths ≡ 140
+unfolding total
+entry-total = refl
+
+pub entries-total : (count : ℕ) → total (rows count entryWidths) ≡ 140 * count
+entries-total count = total-rows count entryWidths ∙ rw entry-total (omega arith)
+
+pub plan-total : (count : ℕ) → total (fieldWidths headWidths entryWidths count) ≡ 52 + 140 * count
+unfolding fieldWidths total
+plan-total count = omega (arith, entries-total count)
+
+pub plan-bytes-is : (count : ℕ) → tableBytes headWidths entryWidths count ≡ (52 + 140 * count + 7) / 8
+unfolding tableBytes
+plan-bytes-is count = rw plan-total
+
+pub unused-is : (plan : List ℕ) → unusedOn plan ≡ fieldAt plan (52 + 140 * countOn plan) (unusedBits (52 + 140 * countOn plan))
+unfolding unusedOn unusedAt
+unused-is plan = rw plan-total
+
+-- no field of a plan is wider than 64 bits
+pub head-narrow : AtMost 64 headWidths
+head-narrow zero = omega arith
+head-narrow (suc zero) = omega arith
+head-narrow (suc (suc i)) = omega arith
+
+pub entry-narrow : AtMost 64 entryWidths
+entry-narrow zero = omega arith
+entry-narrow (suc zero) = omega arith
+entry-narrow (suc (suc zero)) = omega arith
+entry-narrow (suc (suc (suc zero))) = omega arith
+entry-narrow (suc (suc (suc (suc zero)))) = omega arith
+entry-narrow (suc (suc (suc (suc (suc zero))))) = omega arith
+entry-narrow (suc (suc (suc (suc (suc (suc i)))))) = omega arith
+
+-- six numbers for each entry
+pub length-entries : (plan : List ℕ) (count : ℕ) → length (fieldsAt plan (countWidth + costWidth) (rows count entryWidths)) ≡ entryNumbers * count
+length-entries plan count = length-fields plan (countWidth + costWidth) (rows count entryWidths) ∙ length-rows count entryWidths ∙ omega arith
+
+-- ---- reading, test by test
+
+-- bytes that hold a whole plan, with zero in its unused bits
+pub record Whole (plan : List ℕ) : Type 0 where
+  pub some : 0 < countOn plan
+  pub few : countOn plan ≤ mostEntries
+  pub held : tableBytes headWidths entryWidths (countOn plan) ≤ length plan
+  pub clear : unusedOn plan ≡ 0
+
+pub wire-whole : (plan values : List ℕ) → wireTests plan ≡ gives values → Whole plan
+unfolding wireTests
+wire-whole plan values h =
+    let a = when-gives 1 0 (eqb (length plan) 0) refl h in
+    let b = when-gives 9 0 (eqb (countOn plan) 0) refl (a .1) in
+    let d = when-gives 9 0 (ltb mostEntries (countOn plan)) refl (b .1) in
+    let e = when-gives 1 0 (ltb (length plan) (tableBytes headWidths entryWidths (countOn plan))) refl (d .1) in
+    let f = when-gives 7 0 (ltb 0 (unusedOn plan)) refl (e .1) in
+    let z : countOn plan ≡ 0 → ⊥ = eqb-false _ _ (b .0) in
+    let u : unusedOn plan ≤ 0 = ltb-false _ _ (f .0) in
+    record { some = omega arith; few = ltb-false _ _ (d .0); held = ltb-false _ _ (e .0); clear = omega arith }
+
+-- the entries as the reader takes them
+pub entries-are : (plan : List ℕ) (count : ℕ) → count ≡ countOn plan
+    → entryTests count 0 (fieldsAt plan 52 (rows count entryWidths)) ≡ entryTests (countOn plan) 0 (entriesOn plan)
+unfolding entriesOn
+entries-are plan count e = rw e
+
+module _ (plan : List ℕ) (room : ℕ) where
+  pub wire-refuses : (refusal : Refusal) → refusalOf refusal ≡ wireTests plan → refusalOf refusal ≡ readOutcome plan room
+  unfolding readOutcome
+  wire-refuses refusal e = sym (refused-then refusal _ e)
+
+  pub entries-refuse : (refusal : Refusal) → gives [] ≡ wireTests plan → refusalOf refusal ≡ entryTests (countOn plan) 0 (entriesOn plan)
+      → refusalOf refusal ≡ readOutcome plan room
+  unfolding readOutcome
+  entries-refuse refusal wire e = sym (passed-then _ wire ∙ refused-then refusal _ e)
+
+  pub entries-pass : gives [] ≡ wireTests plan → gives [] ≡ entryTests (countOn plan) 0 (entriesOn plan) → roomTest plan room ≡ readOutcome plan room
+  unfolding readOutcome
+  entries-pass wire e = sym (passed-then _ wire ∙ passed-then _ e)
+
+-- a plan that is read: whole, its entries sound, and room for them
+pub record Readable (plan : List ℕ) (room : ℕ) (values : List ℕ) : Type 0 where
+  pub whole : Whole plan
+  pub sound : entryTests (countOn plan) 0 (entriesOn plan) ≡ gives []
+  pub held : entryNumbers * countOn plan ≤ room
+  pub told : values ≡ countOn plan ∷ costOn plan ∷ []
+
+pub read-readable : (plan : List ℕ) (room : ℕ) (values : List ℕ) → readOutcome plan room ≡ gives values → Readable plan room values
+unfolding readOutcome roomTest
+read-readable plan room values h =
+    let a = then-gives (wireTests plan) _ h in
+    let b = then-gives (entryTests (countOn plan) 0 (entriesOn plan)) _ (a .2) in
+    let d = when-gives 8 0 (ltb room (entryNumbers * countOn plan)) refl (b .2) in
+    record {
+      whole = wire-whole plan (a .0) (a .1);
+      sound = tests-pass (countOn plan) 0 (entriesOn plan) (b .0) (b .1);
+      held = ltb-false _ _ (d .0);
+      told = let e : gives (countOn plan ∷ costOn plan ∷ []) ≡ gives values = d .1 in cc;
+    }
+
+-- the numbers of such an answer, and the bounds that they meet
+pub record Told (plan : List ℕ) (room count : ℕ) : Type 0 where
+  pub entries : count ≡ countOn plan
+  pub few : count ≤ mostEntries
+  pub bits : 52 + total (rows count entryWidths) ≤ 8 * length plan
+  pub held : entryNumbers * count ≤ room
+
+pub read-told : (plan : List ℕ) (room count cost : ℕ) → gives (count ∷ cost ∷ []) ≡ readOutcome plan room → Told plan room count
+read-told plan room count cost e =
+    let r = read-readable plan room (count ∷ cost ∷ []) (sym e) in
+    let t = r .told in
+    let n : count ≡ countOn plan = cc in
+    let w = r .whole in
+    let held = r .held in
+    let long = plan-bytes-is (countOn plan) in
+    let bits = entries-total count in
+    record { entries = n; few = omega arith; bits = omega arith; held = omega arith }
+
+-- what the lent entries hold when the plan has been read, and when it has been refused
+pub read-done : (plan lent filled : List ℕ) (count cost : ℕ) → gives (count ∷ cost ∷ []) ≡ readOutcome plan (length lent)
+    → filled ≡ sets lent 0 (fieldsAt plan 52 (rows count entryWidths)) → filled ≡ entriesAfter plan lent
+unfolding entriesAfter entriesOn
+read-done plan lent filled count cost e stored =
+    let t = read-told plan (length lent) count cost e in
+    let held = t .held in
+    let n = t .entries in
+    let long : length (fieldsAt plan 52 (rows (countOn plan) entryWidths)) ≡ entryNumbers * countOn plan = length-entries plan (countOn plan) in
+    let placed : sets lent 0 (fieldsAt plan 52 (rows (countOn plan) entryWidths))
+    ≡ fieldsAt plan 52 (rows (countOn plan) entryWidths) ++ drop (0 + length (fieldsAt plan 52 (rows (countOn plan) entryWidths))) lent =
+    sets-eq (fieldsAt plan 52 (rows (countOn plan) entryWidths)) lent 0 (omega arith) in
+    stored
+    ∙ ap (λ (k : ℕ). sets lent 0 (fieldsAt plan 52 (rows k entryWidths))) n
+    ∙ rw zero-add at placed
+    ∙ sym (given-leaves _ _ e)
+
+pub read-undone : (plan lent : List ℕ) (refusal : Refusal) → refusalOf refusal ≡ readOutcome plan (length lent) → lent ≡ entriesAfter plan lent
+unfolding entriesAfter
+read-undone plan lent refusal e = sym (refused-leaves refusal _ _ e)
+
+-- ---- writing
+
+module _ (count : ℕ) (entries : List ℕ) (cost room : ℕ) where
+  pub memory-refuses : (refusal : Refusal) → refusalOf refusal ≡ memoryTests count entries cost → refusalOf refusal ≡ writeOutcome count entries cost room
+  unfolding writeOutcome
+  memory-refuses refusal e = sym (refused-then refusal _ e)
+
+  pub room-refuses : gives [] ≡ memoryTests count entries cost → room < frameBytes count → refusalOf NoRoom ≡ writeOutcome count entries cost room
+  unfolding writeOutcome _when_else_
+  room-refuses e short = rw (passed-then _ e) (simp (lt-ltb _ _ short))
+
+  pub write-gives : gives [] ≡ memoryTests count entries cost → frameBytes count ≤ room → gives (frameBytes count ∷ []) ≡ writeOutcome count entries cost room
+  unfolding writeOutcome _when_else_
+  write-gives e held = rw (passed-then _ e) (simp (le-ltb _ _ held))
+
+-- entries in memory that pass: how many there are, and that they are lent
+pub record Fitting (count : ℕ) (entries : List ℕ) (cost : ℕ) : Type 0 where
+  pub some : 0 < count
+  pub few : count ≤ mostEntries
+  pub held : entryNumbers * count ≤ length entries
+  pub small : cost < 2 ^ costWidth
+  pub sound : entryTests count 0 entries ≡ gives []
+
+pub memory-fitting : (count : ℕ) (entries : List ℕ) (cost : ℕ) (values : List ℕ) → memoryTests count entries cost ≡ gives values → Fitting count entries cost
+unfolding memoryTests
+memory-fitting count entries cost values h =
+    let a = when-gives 9 0 (eqb count 0) refl h in
+    let b = when-gives 9 0 (ltb mostEntries count) refl (a .1) in
+    let d = when-gives 1 0 (ltb (length entries) (entryNumbers * count)) refl (b .1) in
+    let f = when-gives 11 0 (leb (2 ^ costWidth) cost) refl (d .1) in
+    let z : count ≡ 0 → ⊥ = eqb-false _ _ (a .0) in
+    record {
+      some = omega arith;
+      few = ltb-false _ _ (b .0);
+      held = ltb-false _ _ (d .0);
+      small = leb-false _ _ (f .0);
+      sound = tests-pass count 0 entries values (f .1);
+    }
+
+pub fitting-memory : (count : ℕ) (entries : List ℕ) (cost : ℕ) → Fitting count entries cost → memoryTests count entries cost ≡ gives []
+unfolding memoryTests _when_else_
+fitting-memory count entries cost f =
+    let z : count ≡ 0 → ⊥ = λ (e : count ≡ 0). omega (arith, f .some) in
+    simp (ne-eqb _ _ z, le-ltb _ _ (f .few), le-ltb _ _ (f .held), lt-leb _ _ (f .small)) (f .sound)
+
+-- what the lent frame holds when the plan has been written, and when it has been refused
+pub write-undone : (count : ℕ) (entries : List ℕ) (cost : ℕ) (frame : List ℕ) (refusal : Refusal) → refusalOf refusal ≡ writeOutcome count entries cost (length frame)
+    → frame ≡ frameAfter count entries cost frame
+unfolding frameAfter
+write-undone count entries cost frame refusal e = sym (refused-leaves refusal _ _ e)
+
+-- ---- the frame's part from byte 8 on
+
+-- a part that goes to the end is the rest of the frame
+pub whole-part : (frame : List ℕ) → take (length frame - headBytes) (drop headBytes frame) ≡ drop headBytes frame
+whole-part frame = take-all (length frame - headBytes) (drop headBytes frame) (omega (arith, length-drop headBytes frame))
+
+-- a frame shorter than its head has no count byte
+pub headless : (frame : List ℕ) (room : ℕ) → length frame < headBytes → refusalOf Short ≡ readOutcome (drop headBytes frame) room
+unfolding wireTests _when_else_
+headless frame room short =
+    let none : length (drop headBytes frame) ≡ 0 = omega (arith, length-drop headBytes frame) in
+    wire-refuses (drop headBytes frame) room Short (simp (eq-eqb _ _ none))
+
+-- a part that goes to the end leaves nothing behind it, and the eight head bytes before it are as they were
+pub write-done : (count : ℕ) (entries : List ℕ) (cost : ℕ) (frame part : List ℕ) → gives (frameBytes count ∷ []) ≡ writeOutcome count entries cost (length frame)
+    → part ≡ writeTable (take (length frame - headBytes) (drop headBytes frame)) headWidths entryWidths count ((count ∷ cost ∷ []) ++ take (count * 6) entries)
+    → take headBytes frame ++ (part ++ drop (length frame - headBytes) (drop headBytes frame)) ≡ frameAfter count entries cost frame
+unfolding frameAfter framed
+write-done count entries cost frame part e w =
+    let c : count * 6 ≡ entryNumbers * count = omega arith in
+    let nothing : drop (length frame - headBytes) (drop headBytes frame) ≡ [] = drop-of-length-le (drop headBytes frame) {i = length frame - headBytes} (omega (arith, length-drop headBytes frame)) in
+    let done : part ++ drop (length frame - headBytes) (drop headBytes frame)
+    ≡ writeTable (drop headBytes frame) headWidths entryWidths count (count ∷ cost ∷ take (entryNumbers * count) entries) =
+    rw nothing (append-nil part ∙ rw (c, whole-part) at w) in
+    ap (λ (l : List ℕ). take headBytes frame ++ l) done ∙ sym (given-leaves _ _ e)

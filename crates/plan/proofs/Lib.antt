@@ -1,0 +1,4 @@
+pub mod Judging
+pub mod Framing
+pub mod Trips
+pub mod Answers

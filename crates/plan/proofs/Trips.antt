@@ -1,0 +1,207 @@
+-- The two round trips of a plan: written and read back, the same entries and cost; read and written again, the same bytes. Both stand on the table laws of
+-- the bits layer. Assumes nothing.
+use Prim.Native.Nat.{ℕ, zero, suc, _+_, _-_, _*_, _<_, _≤_, _^_}
+use mathlib.Core.Path.{_≡_, refl, sym, ap, subst, _∙_}
+use mathlib.Core.List.{List, [], _∷_, _++_}
+use native.Mathlib.Omega.{arith}
+use native.Mathlib.Nat.{add-zero}
+use lib.ListN.{length, getD, take, drop, length-append, length-drop, take-append-drop}
+use lib.Seq.{drop-cons, take-at, drop-at, getD-drop, length-take-le}
+use borrow.Author.Tests.{ne-eqb, le-ltb}
+use Rattle.bits.specs.Field.{fieldAt, Bytes}
+use Rattle.bits.specs.Table.{rows, fieldsAt, fieldWidths, tableBytes, readTable, unusedAt, writeTable, Fit}
+use Rattle.bits.proofs.Fields.{field-lt}
+use Rattle.bits.proofs.Tables.{write-read, length-write, read-write}
+use Rattle.packets.specs.Outcome.{Outcome, gives, refuses, _when_else_, _then_}
+use Rattle.packets.proofs.Outcomes.{passed-then, given-leaves}
+use Rattle.plan.specs.Entries.{mostEntries, entryNumbers, entryWidths, entryTests, fieldOf, Sound}
+use Rattle.plan.specs.Frame.{headBytes, countWidth, costWidth, headWidths, frameBytes, countOn, costOn, entriesOn, unusedOn, wireTests, roomTest, readOutcome, entriesAfter, memoryTests, writeOutcome, framed, frameAfter}
+use Rattle.plan.proofs.Judging.{SoundAt, entries-sound, tests-past}
+use Rattle.plan.proofs.Framing.{Whole, Readable, read-readable, plan-bytes-is, length-entries, Fitting, fitting-memory, write-gives}
+
+-- ---- written and read back
+
+-- sound entries fit their widths
+fit-entries : (n i : ℕ) (entries : List ℕ) → entryNumbers * (i + n) ≤ length entries → ((k : ℕ) → i ≤ k → k < i + n → SoundAt entries k)
+    → Fit (rows n entryWidths) (take (entryNumbers * n) (drop (entryNumbers * i) entries))
+unfolding rows
+fit-entries zero i entries held sound = tt
+fit-entries (suc n) i entries held sound =
+    let s = sound i (omega arith) (omega arith) in
+    let a = entryNumbers * i in
+    let g : ℕ → ℕ = λ (k : ℕ). getD entries (a + k) 0 in
+    let more : entryNumbers * suc n ≡ suc (suc (suc (suc (suc (suc (entryNumbers * n)))))) = omega arith in
+    let next : entryNumbers * suc i ≡ a + 6 = omega arith in
+    let front : drop a entries ≡ g 0 ∷ g 1 ∷ g 2 ∷ g 3 ∷ g 4 ∷ g 5 ∷ drop (a + 6) entries =
+    ap (λ (k : ℕ). drop k entries) (sym (add-zero a))
+    ∙ step 0 (omega arith)
+    ∙ ap (λ (l : List ℕ). g 0 ∷ l) (step 1 (omega arith))
+    ∙ ap (λ (l : List ℕ). g 0 ∷ g 1 ∷ l) (step 2 (omega arith))
+    ∙ ap (λ (l : List ℕ). g 0 ∷ g 1 ∷ g 2 ∷ l) (step 3 (omega arith))
+    ∙ ap (λ (l : List ℕ). g 0 ∷ g 1 ∷ g 2 ∷ g 3 ∷ l) (step 4 (omega arith))
+    ∙ ap (λ (l : List ℕ). g 0 ∷ g 1 ∷ g 2 ∷ g 3 ∷ g 4 ∷ l) (step 5 (omega arith)) in
+    let rest = fit-entries n (suc i) entries (omega arith) (λ k lo hi. sound k (omega arith) (omega arith)) in
+    let here : Fit (rows (suc n) entryWidths) (take (suc (suc (suc (suc (suc (suc (entryNumbers * n))))))) (g 0 ∷ g 1 ∷ g 2 ∷ g 3 ∷ g 4 ∷ g 5 ∷ drop (a + 6) entries)) = (
+      s .packet-fits,
+      (
+        omega (arith, s .start-fits),
+        (s .r-fits, (omega (arith, s .d-fits), (omega (arith, s .rising, s .to-fits), (s .to-fits, rw next at rest)))),
+      ),
+    ) in
+    rw more (subst (λ (l : List ℕ). Fit (rows (suc n) entryWidths) (take (suc (suc (suc (suc (suc (suc (entryNumbers * n))))))) l)) (sym front) here)
+  where
+    step : (k : ℕ) → k < 6 → drop (entryNumbers * i + k) entries ≡ getD entries (entryNumbers * i + k) 0 ∷ drop (entryNumbers * i + (k + 1)) entries
+    step k h =
+        let e : suc (entryNumbers * i + k) ≡ entryNumbers * i + (k + 1) = omega arith in
+        drop-cons entries (entryNumbers * i + k) 0 (omega arith) ∙ ap (λ (m : ℕ). getD entries (entryNumbers * i + k) 0 ∷ drop m entries) e
+
+-- a table of a count, a cost and entries, read
+table-plan : (plan : List ℕ) (count : ℕ)
+    → readTable plan headWidths entryWidths count ≡ countOn plan ∷ costOn plan ∷ fieldsAt plan (countWidth + costWidth) (rows count entryWidths)
+unfolding readTable fieldWidths fieldsAt countOn costOn
+table-plan plan count = refl
+
+-- the first entries of those that pass, pass alike
+first-tests : (count : ℕ) (entries : List ℕ) → entryNumbers * count ≤ length entries → entryTests count 0 entries ≡ gives []
+    → entryTests count 0 (take (entryNumbers * count) entries) ≡ gives []
+first-tests count entries held all =
+    let long = length-take-le (entryNumbers * count) entries held in
+    sym (tests-past count (take (entryNumbers * count) entries) (drop (entryNumbers * count) entries) (omega arith))
+    ∙ ap (entryTests count 0) (take-append-drop (entryNumbers * count) entries)
+    ∙ all
+
+-- Entries and a cost that pass their tests, written into any frame that has room.
+module _ (count : ℕ) (entries : List ℕ) (cost : ℕ) (frame : List ℕ) (fitting : Fitting count entries cost) (long : frameBytes count ≤ length frame) where
+  written : List ℕ
+  written = writeTable (drop headBytes frame) headWidths entryWidths count (count ∷ cost ∷ take (entryNumbers * count) entries)
+
+  room : tableBytes headWidths entryWidths count ≤ length (drop headBytes frame)
+  unfolding frameBytes
+  room = omega (arith, long, length-drop headBytes frame)
+
+  fits : Fit (fieldWidths headWidths entryWidths count) (count ∷ cost ∷ take (entryNumbers * count) entries)
+  unfolding fieldWidths
+  fits = (
+    omega (arith, fitting .few),
+    (fitting .small, fit-entries count 0 entries (omega (arith, fitting .held)) (λ k lo hi. entries-sound count 0 entries [] (fitting .sound) k lo hi)),
+  )
+
+  back : (readTable written headWidths entryWidths count ≡ count ∷ cost ∷ take (entryNumbers * count) entries)
+      × (unusedAt written headWidths entryWidths count ≡ 0)
+  unfolding written
+  back = write-read headWidths entryWidths count (drop headBytes frame) (count ∷ cost ∷ take (entryNumbers * count) entries) room fits
+
+  all-back : countOn written ∷ costOn written ∷ fieldsAt written (countWidth + costWidth) (rows count entryWidths) ≡ count ∷ cost ∷ take (entryNumbers * count) entries
+  all-back = sym (table-plan written count) ∙ back .0
+
+  count-back : countOn written ≡ count
+  count-back = cc all-back
+
+  cost-back : costOn written ≡ cost
+  cost-back = cc all-back
+
+  entries-back : entriesOn written ≡ take (entryNumbers * count) entries
+  unfolding entriesOn
+  entries-back = rw count-back (ap (drop 2) all-back)
+
+  unused-back : unusedOn written ≡ 0
+  unfolding unusedOn
+  unused-back = rw count-back (back .1)
+
+  length-back : length written ≡ length (drop headBytes frame)
+  unfolding written
+  length-back = length-write headWidths entryWidths count (drop headBytes frame) _
+
+  wire-back : wireTests written ≡ gives []
+  unfolding wireTests _when_else_
+  wire-back =
+      let used = plan-bytes-is count in
+      let r = room in
+      let z : length written ≡ 0 → ⊥ = λ (e : length written ≡ 0). omega (arith, length-back) in
+      let y : count ≡ 0 → ⊥ = λ (e : count ≡ 0). omega (arith, fitting .some) in
+      let h : tableBytes headWidths entryWidths count ≤ length written = omega (arith, length-back) in
+      let u : unusedOn written ≤ 0 = omega (arith, unused-back) in
+      rw count-back (simp (ne-eqb _ _ z, ne-eqb _ _ y, le-ltb _ _ (fitting .few), le-ltb _ _ h, le-ltb _ _ u))
+
+  read-back : (lent : ℕ) → entryNumbers * count ≤ lent → readOutcome written lent ≡ gives (count ∷ cost ∷ [])
+  unfolding readOutcome roomTest _when_else_
+  read-back lent held =
+      passed-then _ (sym wire-back)
+      ∙ passed-then _ (sym (rw (count-back, entries-back) (first-tests count entries (fitting .held) (fitting .sound))))
+      ∙ rw (count-back, cost-back) (simp (le-ltb _ _ held))
+
+  -- the plan stands in the frame from byte 8 on, behind the head as it was
+  frame-plan : (take headBytes (frameAfter count entries cost frame) ≡ take headBytes frame) × (drop headBytes (frameAfter count entries cost frame) ≡ written)
+  unfolding frameAfter framed written
+  frame-plan =
+      let wrote : frameAfter count entries cost frame ≡ take headBytes frame ++ written =
+      given-leaves _ _ (write-gives count entries cost (length frame) (sym (fitting-memory count entries cost fitting)) long) in
+      let eight : length (take headBytes frame) ≡ headBytes = length-take-le headBytes frame (unfold frameBytes in (omega (arith, long))) in
+      (ap (take headBytes) wrote ∙ take-at (take headBytes frame) written headBytes eight, ap (drop headBytes) wrote ∙ drop-at (take headBytes frame) written headBytes eight)
+
+  -- in the words of the calls: what is written, read into lent room, is the same entries and cost
+  pub write-read-plan : (lent : List ℕ) → entryNumbers * count ≤ length lent
+      → (readOutcome (drop headBytes (frameAfter count entries cost frame)) (length lent) ≡ gives (count ∷ cost ∷ []))
+      × (entriesAfter (drop headBytes (frameAfter count entries cost frame)) lent ≡ take (entryNumbers * count) entries ++ drop (entryNumbers * count) lent)
+      × (take headBytes (frameAfter count entries cost frame) ≡ take headBytes frame)
+  unfolding entriesAfter
+  write-read-plan lent held =
+      let gave = read-back (length lent) held in
+      let n = length-take-le (entryNumbers * count) entries (fitting .held) in
+      (rw (frame-plan .1) gave, rw (frame-plan .1) (given-leaves _ _ (sym gave) ∙ rw (entries-back, n)), frame-plan .0)
+
+-- ---- read and written again
+
+-- A plan that is read into lent room, and what the room then holds, with the cost, written into any frame that has room.
+module _ (plan lent frame : List ℕ) (small : Bytes plan) (small-frame : Bytes frame) (values : List ℕ)
+    (gave : readOutcome plan (length lent) ≡ gives values) (long : frameBytes (countOn plan) ≤ length frame) where
+  read : Readable plan (length lent) values
+  read = read-readable plan (length lent) values gave
+
+  held : entriesAfter plan lent ≡ entriesOn plan ++ drop (length (entriesOn plan)) lent
+  unfolding entriesAfter
+  held = given-leaves _ _ (sym gave)
+
+  length-on : length (entriesOn plan) ≡ entryNumbers * countOn plan
+  unfolding entriesOn
+  length-on = length-entries plan (countOn plan)
+
+  -- the entries and the cost pass again
+  pub still-fitting : Fitting (countOn plan) (entriesAfter plan lent) (costOn plan)
+  unfolding costOn
+  still-fitting =
+      record {
+        some = read .whole .some;
+        few = read .whole .few;
+        held = rw held (omega (arith, length-on, length-append (entriesOn plan) (drop (length (entriesOn plan)) lent)));
+        small = field-lt plan countWidth costWidth;
+        sound = rw held (tests-past (countOn plan) (entriesOn plan) _ (omega (arith, length-on)) ∙ read .sound);
+      }
+
+  same-values : countOn plan ∷ costOn plan ∷ take (entryNumbers * countOn plan) (entriesAfter plan lent) ≡ readTable plan headWidths entryWidths (countOn plan)
+  unfolding entriesOn
+  same-values =
+      ap (λ (l : List ℕ). countOn plan ∷ costOn plan ∷ l)
+      (ap (take (entryNumbers * countOn plan)) held ∙ take-at (entriesOn plan) _ (entryNumbers * countOn plan) length-on)
+      ∙ sym (table-plan plan (countOn plan))
+
+  -- the same bytes, from byte 8 on, between the head and what stands behind the plan
+  pub read-write-plan : (writeOutcome (countOn plan) (entriesAfter plan lent) (costOn plan) (length frame) ≡ gives (frameBytes (countOn plan) ∷ []))
+      × (frameAfter (countOn plan) (entriesAfter plan lent) (costOn plan) frame
+      ≡ take headBytes frame
+      ++ (take (tableBytes headWidths entryWidths (countOn plan)) plan ++ drop (tableBytes headWidths entryWidths (countOn plan)) (drop headBytes frame)))
+  unfolding frameAfter framed
+  read-write-plan = (sym wrote, given-leaves _ _ wrote ∙ ap (λ (l : List ℕ). take headBytes frame ++ l) (rw same-values again))
+    where
+      wrote : gives (frameBytes (countOn plan) ∷ []) ≡ writeOutcome (countOn plan) (entriesAfter plan lent) (costOn plan) (length frame)
+      wrote = write-gives (countOn plan) (entriesAfter plan lent) (costOn plan) (length frame) (sym (fitting-memory _ _ _ still-fitting)) long
+
+      small-part : Bytes (drop headBytes frame)
+      small-part i = rw (getD-drop headBytes frame i 0) (small-frame (headBytes + i))
+
+      again : writeTable (drop headBytes frame) headWidths entryWidths (countOn plan) (readTable plan headWidths entryWidths (countOn plan))
+          ≡ take (tableBytes headWidths entryWidths (countOn plan)) plan ++ drop (tableBytes headWidths entryWidths (countOn plan)) (drop headBytes frame)
+      again =
+          (unfold unusedOn frameBytes in
+          (read-write headWidths entryWidths (countOn plan) plan (drop headBytes frame) small small-part (read .whole .held)
+          (omega (arith, long, length-drop headBytes frame)) (read .whole .clear)))

@@ -1,0 +1,3 @@
+// Plan: the entries of a timetable in a lent frame.
+pub mod entries;
+pub mod frame;

@@ -1,0 +1,6 @@
+pub mod Rowing
+pub mod Passing
+pub mod Packing
+pub mod Reading
+pub mod Answers
+pub mod Cases
