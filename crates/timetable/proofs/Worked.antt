@@ -50,7 +50,7 @@ B =
       cost = 1;
     }
 
--- two packets of one window: equal deadlines go to the lower number
+-- two packets of one window: the lower number is sent first
 abbrev C : Case
 C =
     record {

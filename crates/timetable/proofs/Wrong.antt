@@ -38,11 +38,7 @@ not-merged answer p = let z : _≡_ {A = ℕ} 2 1 = ap (λ (l : List ℕ). getD 
 abbrev uneven : List ℕ
 uneven = 9 ∷ 0 ∷ 4 ∷ []
 
--- the cost of the exact rate, 81/4 rounded to 20 or to 21, in place of the setting's 27
-not-exact-cost : (exit : List ℕ) → Timetabled 1 uneven room (Made 1 1 20) exit → ⊥
+-- any cost but the setting's 27, as the exact rate's 81/4 rounded to 20 or to 21
+not-exact-cost : (cost : ℕ) (exit : List ℕ) → (cost ≡ 27 → ⊥) → Timetabled 1 uneven room (Made 1 1 cost) exit → ⊥
 unfolding airBytes sizeOf arrivalOf deadlineOf euclid gcd lowestN lowestD assign choose inside left onlyIf sum unassigned epochsOf packetsOf pointsOf withPoint after atFirst beats bestFrom bestOf better dayOf giveRate leads len load outcomeOf pick round roundOf taken carries priceOf priced epochCount shownD setting begun candidate earliest eligible entriesOf filled less nextIn numbersOf sent sheetAt sooner turnOf turns unitsIn unitsOf costOf radioCost _when_else_ _then_ _given_else_ inOrder memoryTests recordAt recordTest recordTests timetablesOutcome
-not-exact-cost exit p = let e = p .answer-is in let z : _≡_ {A = ℕ} 20 27 = cc in omega arith
-
-not-exact-cost-up : (exit : List ℕ) → Timetabled 1 uneven room (Made 1 1 21) exit → ⊥
-unfolding airBytes sizeOf arrivalOf deadlineOf euclid gcd lowestN lowestD assign choose inside left onlyIf sum unassigned epochsOf packetsOf pointsOf withPoint after atFirst beats bestFrom bestOf better dayOf giveRate leads len load outcomeOf pick round roundOf taken carries priceOf priced epochCount shownD setting begun candidate earliest eligible entriesOf filled less nextIn numbersOf sent sheetAt sooner turnOf turns unitsIn unitsOf costOf radioCost _when_else_ _then_ _given_else_ inOrder memoryTests recordAt recordTest recordTests timetablesOutcome
-not-exact-cost-up exit p = let e = p .answer-is in let z : _≡_ {A = ℕ} 21 27 = cc in omega arith
+not-exact-cost cost exit other p = let e = p .answer-is in other cc

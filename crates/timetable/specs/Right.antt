@@ -13,7 +13,7 @@ use Rattle.policy.specs.Rounds.{Day, Progress}
 use Rattle.timetable.specs.Setting.{mostRate, setting}
 use Rattle.timetable.specs.Entries.{Entry, exactMoment, radioMoment, unitsIn, unitsOf}
 
--- the most entries of a timetable: each ends a packet or an epoch, of which there are at most 64 and 127 (entries)
+-- the most entries of a timetable, as many as packets and epochs: 64 and 127 (entries)
 abbrev pub mostEntries : ℕ
 mostEntries = 191
 
