@@ -10,6 +10,7 @@ use native.Mathlib.Nat.{add-comm, mul-le-mul}
 use lib.ListN.{length, getD, take, drop, set, length-append, length-set, length-drop}
 use lib.Seq.{getD-set-same, getD-set-other, take-at, length-take-le}
 use lib.Dec.{eqb, leb, ltb}
+use Rattle.timetable.specs.Right.{mostEntries}
 use Rattle.packets.specs.Limits.{lastSecond}
 use Rattle.packets.specs.Records.{Accepted, arrivalOf, deadlineOf}
 use Rattle.policy.specs.Windows.{Given, none, rate, choose, inside}
@@ -19,7 +20,7 @@ use Rattle.policy.specs.Carried.{carries}
 use Rattle.policy.proofs.Sums.{sum-at}
 use Rattle.policy.proofs.Proper.{RateInRange}
 use Rattle.timetable.specs.declared.choice.Epoch.{Epoch}
-use Rattle.timetable.specs.Setting.{setting}
+use Rattle.timetable.specs.Setting.{setting, mostRate}
 use Rattle.timetable.specs.Entries.{Choice, nobody, packet, Entry, Sheet, begun, candidate, earliest, eligible, entryNumbers, filled, less, nextIn, numbersOf, sent, sheetAt, sooner, turnOf, turns, unitsIn}
 use Rattle.timetable.specs.Steps.{Carrying, Sheeted, Underway, among, found, foundOf, nextFound, sendable, withRow}
 use Rattle.timetable.proofs.Turning.{Next, Settled, Stretch, less-other, less-same, next-is, next-one, none-next, settled, turns-rest}
@@ -92,7 +93,7 @@ pub record Ready (unsent entries : List ℕ) (behind x next full : ℕ) : Type 0
   pub room : x < full
   pub some : 0 < getD unsent next 0
   pub place : behind + 7 ≤ length entries
-  pub few : behind + 7 ≤ 1337
+  pub few : behind + 7 ≤ entryNumbers * mostEntries
 
 module _ (count : ℕ) (records : List ℕ) (k : ℕ) (epoch : Epoch) (n d : List ℕ) (is : Carrying count records k epoch n d) where
   abbrev accepted : Accepted count records
@@ -202,8 +203,8 @@ module _ (count : ℕ) (records : List ℕ) (k : ℕ) (epoch : Epoch) (n d : Lis
   pub full-is : (full : ℕ) → full ≡ (epoch .end - epoch .start) * epoch .n → full ≡ unitsIn day k (epoch .n)
   full-is full e = e ∙ ap (λ (x : ℕ). x * epoch .n) seconds-are ∙ (unfold unitsIn in refl)
 
-  pub full-fits : (full : ℕ) → full ≡ (epoch .end - epoch .start) * epoch .n → full ≤ 86400 * 4194240
-  full-fits full e = subst (λ (x : ℕ). x ≤ 86400 * 4194240) (sym e) (mul-le-mul seconds-fit (rate-fits .n-most))
+  pub full-fits : (full : ℕ) → full ≡ (epoch .end - epoch .start) * epoch .n → full ≤ lastSecond * mostRate
+  full-fits full e = subst (λ (x : ℕ). x ≤ lastSecond * mostRate) (sym e) (mul-le-mul seconds-fit (rate-fits .n-most))
 
   -- at the epoch's start
   pub filling-first : (unsent entries : List ℕ) (at next full : ℕ) → Underway count records k unsent entries at → full ≡ unitsIn day k (epoch .n)
@@ -232,7 +233,7 @@ module _ (count : ℕ) (records : List ℕ) (k : ℕ) (epoch : Epoch) (n d : Lis
 
     pub ready : Ready unsent entries behind x next full
     ready =
-        let few : behind + 7 ≤ 1337 = omega (arith, f .sheeted .at-is, one, epochs-few count records accepted, accepted .few, packets-are, is .k-is) in
+        let few : behind + 7 ≤ entryNumbers * mostEntries = omega (arith, f .sheeted .at-is, one, epochs-few count records accepted, accepted .few, packets-are, is .k-is) in
         record {
           room = omega (arith, f .x-is, f-is, stretch .room);
           some = omega (arith, f .sheeted .unsent-is next h, stretch .some, stretch .has);

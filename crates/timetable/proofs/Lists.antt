@@ -117,7 +117,7 @@ module _ (count : ℕ) (records : List ℕ) (accepted : Accepted count records) 
       let f = rate-in-range e r in
       let w = epoch-day (r .epoch) (r .epoch-is) in
       let R-most : e .R ≤ mostRate = subst (λ (x : ℕ). x ≤ mostRate) (sym (r .set)) (setting-most (e .N) (e .D) f) in
-      let to-most : e .to ≤ 86400 * 4194240 = le-trans (r .fits) (unfold unitsIn in mul-le-mul (w .1) (f .n-most)) in
+      let to-most : e .to ≤ lastSecond * mostRate = le-trans (r .fits) (unfold unitsIn in mul-le-mul (w .1) (f .n-most)) in
       record {
         packet-fits = omega (arith, r .packet-is, packets-are, accepted .few);
         start-fits = omega (arith, r .starts, w .0);

@@ -4,6 +4,8 @@ use lib.ListN.{getD}
 -- who is sent next. The measure is the room that is left (units). Assumes nothing.
 use Prim.Native.Nat.{_+_, _-_, _*_, _<_, _≤_}
 use native.Mathlib.Omega.{arith}
+use Rattle.timetable.specs.Setting.{mostRate}
+use Rattle.packets.specs.Limits.{lastSecond}
 use Rattle.timetable.proofs.Filling.{Filling, Ready, before-end, filling-first, filling-last, filling-next, full-fits, full-is, rate-fits, ready, seconds-fit}
 use borrow.Author.Needs.{needs}
 use Rattle.timetable.proofs.epoch.fill.Statement.{statement}
@@ -52,7 +54,7 @@ smaller-requires c κs = search needs
 -- how much is sent
 amount : (c : tie.After-smaller Inv-loop μ-loop)
     → (0 < c .smaller .result) × (c .smaller .result ≤ getD (c .before .before .before .loop .unsent) (c .before .before .before .loop .next) 0)
-    × (c .before .before .before .loop .x + c .smaller .result ≤ c .before .before .before .before .before .before .before .cross .result) × (c .before .before .before .before .before .before .before .cross .result ≤ 86400 * 4194240)
+    × (c .before .before .before .loop .x + c .smaller .result ≤ c .before .before .before .before .before .before .before .cross .result) × (c .before .before .before .before .before .before .before .cross .result ≤ lastSecond * mostRate)
 amount c =
     let t = turn (c .before .before) in
     let fits = full-fits _ _ _ (c .before .before .before .before .before .before .before .before .before .before .before .args .epoch) _ _ (c .before .before .before .before .before .before .before .before .before .before .before .pre .0) _ (c .before .before .before .before .before .before .before .cross .ensures) in
