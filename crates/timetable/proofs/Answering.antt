@@ -1,7 +1,7 @@
 -- The outcome of the call, case by case, and that its promise admits one answer only: the outcome gives the answer, and the records and the lent room
 -- give what is in the lent room at the end. Assumes nothing.
 use Prim.Native.Nat.{ℕ, _*_, _<_, _≤_}
-use mathlib.Core.Path.{_≡_, refl, sym, ap, subst, _∙_}
+use mathlib.Core.Path.{_≡_, refl, sym, ap, _∙_}
 use mathlib.Core.List.{List, [], _∷_}
 use native.Mathlib.Omega.{arith}
 use lib.ListN.{length, take}
@@ -9,7 +9,7 @@ use lib.Dec.{ltb}
 use borrow.Author.Tests.{lt-ltb, le-ltb}
 use Rattle.packets.specs.declared.refusal.Refusal.{Refusal}
 use Rattle.packets.specs.declared.refusal.Refusal.the-variants.{NoRoom}
-use Rattle.packets.specs.Outcome.{Outcome, gives, refuses, _when_else_, refusalOf}
+use Rattle.packets.specs.Outcome.{gives, refuses, _when_else_, refusalOf}
 use Rattle.packets.specs.Records.{memoryTests, Accepted}
 use Rattle.packets.proofs.Records.{accepted-memory}
 use Rattle.packets.proofs.Outcomes.{refused-then, passed-then, refused-leaves, given-leaves}

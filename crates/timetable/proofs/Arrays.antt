@@ -1,14 +1,14 @@
 -- The arrays of the code hold the rates and the units of the definitions, and their figures fit. Assumes nothing.
-use Prim.Native.Nat.{ℕ, zero, suc, _+_, _-_, _*_, _^_, _<_, _≤_}
+use Prim.Native.Nat.{ℕ, zero, suc, _+_, _*_, _^_, _<_, _≤_}
 use mathlib.Core.Path.{_≡_, refl, sym, ap, subst, _∙_}
 use mathlib.Core.List.{List}
 use native.Mathlib.Omega.{arith}
 use native.Mathlib.Decide.{ℕ-discrete}
 use native.Mathlib.Numerals.{add-one}
-use lib.ListN.{length, getD}
+use lib.ListN.{getD}
 use Rattle.packets.specs.Limits.{airBytes, lastSecond}
-use Rattle.packets.specs.Records.{Accepted, recordNumbers, sizeOf}
-use Rattle.policy.specs.Windows.{Given, none, rate, sum}
+use Rattle.packets.specs.Records.{Accepted, sizeOf}
+use Rattle.policy.specs.Windows.{rate, sum}
 use Rattle.policy.specs.Points.{packetsOf}
 use Rattle.policy.specs.Rounds.{dayOf, outcomeOf}
 use Rattle.policy.specs.Carried.{priceOf, priced}
@@ -18,11 +18,10 @@ use Rattle.policy.specs.Figures.{largestAir}
 use Rattle.policy.proofs.Accepting.{air-most}
 use Rattle.policy.proofs.Proper.{RateInRange}
 use Rattle.policy.proofs.Facts.{assigned}
-use Rattle.timetable.specs.Setting.{mostRate, setting}
+use Rattle.timetable.specs.Setting.{setting}
 use Rattle.timetable.specs.Entries.{sheetAt, unitsOf}
 use Rattle.timetable.specs.Costs.{costOf, radioCost}
 use Rattle.timetable.specs.Steps.{PacketDs, PacketRates}
-use Rattle.timetable.proofs.Settings.{setting-most}
 use Rattle.timetable.proofs.Lists.{rated}
 use Rattle.timetable.proofs.Costs.{cost-fits}
 

@@ -5,18 +5,18 @@ use mathlib.Core.Path.{_≡_, refl, sym, ap, subst, _∙_}
 use mathlib.Core.List.{List, [], _∷_, _++_}
 use native.Mathlib.Omega.{arith}
 use native.Mathlib.Decide.{ℕ-discrete}
-use native.Mathlib.Nat.{dvd-mul-left, dvd-mul-right-of-dvd, le-trans, mul-div-cancel', mul-le-mul, mul-le-mul-left, mul-le-mul-right, mul-pos}
+use native.Mathlib.Nat.{dvd-mul-left, dvd-mul-right-of-dvd, mul-div-cancel', mul-le-mul-left}
 use Rattle.packets.specs.Records.{Accepted}
-use Rattle.policy.specs.Windows.{Windows, Given, none, rate, inside, onlyIf, sum}
+use Rattle.policy.specs.Windows.{Given, none, rate, inside, sum}
 use Rattle.policy.specs.Rounds.{Day, Progress, dayOf, outcomeOf}
 use Rattle.policy.specs.Carried.{carries, inUnits, priceOf, priced}
-use Rattle.policy.specs.Answer.{shownD, epochCount}
+use Rattle.policy.specs.Answer.{shownD}
 use Rattle.policy.proofs.Sums.{sum-eq, sum-le, sum-none, sum-scale}
 use Rattle.policy.proofs.Left.{both}
 use Rattle.policy.proofs.Carry.{carries-is}
 use Rattle.policy.proofs.Facts.{assigned}
 use Rattle.timetable.specs.Setting.{mostRate, setting}
-use Rattle.timetable.specs.Entries.{Entry, Sheet, begun, eligible, entriesOf, filled, less, sent, sheetAt, turns, unitsOf}
+use Rattle.timetable.specs.Entries.{Entry, Sheet, begun, eligible, entriesOf, filled, less, sent, sheetAt, unitsOf}
 use Rattle.timetable.specs.Costs.{commonD, costOf, exactCostD, exactCostIn, exactCostN, product, radioCost, stretchesCost}
 use Rattle.timetable.proofs.Turning.{differ, less-other, less-same, Stretch, turns-keep}
 use Rattle.timetable.proofs.NeverLate.{Rated, all-sent}
@@ -162,6 +162,12 @@ module _ (day : Day) (rates : Progress) where
   pub exact-cost : (L : ℕ) → Common L → exactCostIn L day rates * exactCostD day rates ≡ exactCostN day rates * (L * L)
   unfolding exactCostD exactCostN
   exact-cost L c = exact-same L (commonD day rates) c common
+
+  -- the exact cost, packet by packet: bytes times rate, in units of 1/L squared
+  pub exact-by-packets : (L : ℕ) → Rated day rates → ((i n d : ℕ) → i < day .packets .count → rates .packet i ≡ rate n d → d ∣ L)
+      → priced (inUnits L) (day .packets) (rates .packet) * L ≡ exactCostIn L day rates
+  unfolding exactCostIn
+  exact-by-packets L r multiple = r .facts .K2 L (inUnits L) multiple
 
 -- ## Accepted lists
 

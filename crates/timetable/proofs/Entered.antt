@@ -1,8 +1,8 @@
 -- The entries, one after the other. Each new one stands behind all others: it begins at the offset that its epoch has reached. It sends what its packet and its
 -- epoch gain by it, and it ends a packet or fills the epoch. Assumes nothing.
-use Prim.Native.Nat.{ℕ, zero, suc, _+_, _-_, _*_, _<_, _≤_}
-use mathlib.Core.Path.{_≡_, refl, sym, ap, subst, _∙_}
-use mathlib.Core.Bool.{Bool, true, false, _&&_}
+use Prim.Native.Nat.{ℕ, zero, suc, _+_, _-_, _<_, _≤_}
+use mathlib.Core.Path.{_≡_, refl, sym, ap, _∙_}
+use mathlib.Core.Bool.{Bool, true, false}
 use mathlib.Core.Logic.{_⊎_, inl, inr}
 use mathlib.Core.List.{List, [], _∷_, _++_}
 use native.Mathlib.Omega.{arith}
@@ -10,7 +10,7 @@ use native.Mathlib.Decide.{ℕ-discrete}
 use lib.ListN.{length, length-append}
 use lib.Dec.{eqb}
 use borrow.Author.Tests.{eq-eqb, ne-eqb}
-use Rattle.policy.specs.Windows.{Windows, Given, none, rate, inside, onlyIf}
+use Rattle.policy.specs.Windows.{Given, none, rate, inside, onlyIf}
 use Rattle.policy.specs.Rounds.{Day, Progress}
 use Rattle.policy.specs.Carried.{carries}
 use Rattle.policy.proofs.Left.{both, inside-true}
@@ -19,7 +19,7 @@ use Rattle.timetable.specs.Setting.{setting}
 use Rattle.timetable.specs.Entries.{Entry, Sheet, eligible, unitsIn, unitsOf, less, sent, turns, begun, filled, sheetAt}
 use Rattle.timetable.specs.Right.{Each, Right, EndsBy, Ordered, unitsWhere, ofPacket, inEpoch}
 use Rattle.timetable.proofs.Turning.{less-same, less-other, unfinished, unfinished-most, unfinished-less, unfinished-ends, unfinished-some, Stretch, turns-keep}
-use Rattle.timetable.proofs.NeverLate.{Rated, reached, full, all-sent}
+use Rattle.timetable.proofs.NeverLate.{Rated, reached}
 
 -- ## One entry more
 

@@ -1,31 +1,29 @@
 -- The stretches of one epoch in code. After each turn the arrays hold the definition's sheet, and the number at hand is who is sent next; once that is nobody,
 -- the epoch is settled, and further turns of the definition change nothing. Assumes nothing.
-use Prim.Native.Nat.{ℕ, zero, suc, _+_, _-_, _*_, _^_, _<_, _≤_, min}
+use Prim.Native.Nat.{ℕ, zero, suc, _+_, _-_, _*_, _<_, _≤_, min}
 use mathlib.Core.Path.{_≡_, refl, sym, ap, ap₂, subst, _∙_}
 use mathlib.Core.Bool.{Bool, true, false, _&&_}
 use mathlib.Core.List.{List, [], _∷_, _++_}
 use native.Mathlib.Omega.{arith}
 use native.Mathlib.Decide.{ℕ-discrete}
-use native.Mathlib.Nat.{add-comm, le-trans, mul-le-mul}
+use native.Mathlib.Nat.{add-comm, mul-le-mul}
 use lib.ListN.{length, getD, take, drop, set, length-append, length-set, length-drop}
 use lib.Seq.{getD-set-same, getD-set-other, take-at, length-take-le}
 use lib.Dec.{eqb, leb, ltb}
+use Rattle.timetable.specs.Right.{mostEntries}
 use Rattle.packets.specs.Limits.{lastSecond}
 use Rattle.packets.specs.Records.{Accepted, arrivalOf, deadlineOf}
-use Rattle.policy.specs.Windows.{Given, none, rate, choose, inside, sum}
+use Rattle.policy.specs.Windows.{Given, none, rate, choose, inside}
 use Rattle.policy.specs.Points.{packetsOf}
 use Rattle.policy.specs.Rounds.{Day, Progress, dayOf, outcomeOf}
 use Rattle.policy.specs.Carried.{carries}
 use Rattle.policy.proofs.Sums.{sum-at}
 use Rattle.policy.proofs.Proper.{RateInRange}
 use Rattle.timetable.specs.declared.choice.Epoch.{Epoch}
-use Rattle.timetable.specs.Setting.{mostRate, setting}
+use Rattle.timetable.specs.Setting.{setting, mostRate}
 use Rattle.timetable.specs.Entries.{Choice, nobody, packet, Entry, Sheet, begun, candidate, earliest, eligible, entryNumbers, filled, less, nextIn, numbersOf, sent, sheetAt, sooner, turnOf, turns, unitsIn}
-use Rattle.timetable.specs.Right.{mostEntries}
-use Rattle.timetable.specs.Steps.{EpochIs, PacketRates, Sheeted, Underway, among, found, foundOf, nextFound, sendable, withRow}
+use Rattle.timetable.specs.Steps.{Carrying, Sheeted, Underway, among, found, foundOf, nextFound, sendable, withRow}
 use Rattle.timetable.proofs.Turning.{Next, Settled, Stretch, less-other, less-same, next-is, next-one, none-next, settled, turns-rest}
-use Rattle.timetable.proofs.Within.{sending}
-use Rattle.timetable.proofs.NeverLate.{Rated}
 use Rattle.timetable.proofs.Entered.{newEntry, room-for-one}
 use Rattle.timetable.proofs.Lists.{epochs-few, rated}
 use Rattle.timetable.proofs.Arrays.{in-arrays}
@@ -95,10 +93,12 @@ pub record Ready (unsent entries : List ℕ) (behind x next full : ℕ) : Type 0
   pub room : x < full
   pub some : 0 < getD unsent next 0
   pub place : behind + 7 ≤ length entries
-  pub few : behind + 7 ≤ 1337
+  pub few : behind + 7 ≤ entryNumbers * mostEntries
 
-module _ (count : ℕ) (records : List ℕ) (accepted : Accepted count records) (k : ℕ) (epoch : Epoch) (is : EpochIs count records k epoch)
-    (n d : List ℕ) (has : PacketRates count records n d) where
+module _ (count : ℕ) (records : List ℕ) (k : ℕ) (epoch : Epoch) (n d : List ℕ) (is : Carrying count records k epoch n d) where
+  abbrev accepted : Accepted count records
+  accepted = is .accepted
+
   abbrev day : Day
   day = dayOf count records
 
@@ -109,34 +109,34 @@ module _ (count : ℕ) (records : List ℕ) (accepted : Accepted count records) 
   packets-are = unfold dayOf packetsOf in refl
 
   same-test : (sheet : Sheet) (unsent : List ℕ) → ((i : ℕ) → i < count → getD unsent i 0 ≡ sheet .unsent i) → (i : ℕ) → i < count
-      → among epoch records n d unsent i ≡ candidate (dayOf count records) (outcomeOf count records) k (epoch .n) (epoch .d) (sheet .unsent) i
+      → among epoch records n d unsent i ≡ candidate day rates k (epoch .n) (epoch .d) (sheet .unsent) i
   unfolding among sendable candidate eligible inside dayOf packetsOf
   same-test sheet unsent u i h =
       ap₂ (λ (x : ℕ) (y : Bool). ((y && (leb (arrivalOf records i) (epoch .start) && leb (epoch .end) (deadlineOf records i))) && ltb 0 x)) (u i h) carried ∙
-      ap₂ (λ (a b : ℕ). ((carries (outcomeOf count records .packet i) (epoch .n) (epoch .d) && (leb (arrivalOf records i) a && leb b (deadlineOf records i))) && ltb 0 (sheet .unsent i)))
+      ap₂ (λ (a b : ℕ). ((carries (rates .packet i) (epoch .n) (epoch .d) && (leb (arrivalOf records i) a && leb b (deadlineOf records i))) && ltb 0 (sheet .unsent i)))
       (is .start-is) (is .end-is)
     where
-      carried : (eqb (getD n i 0) (epoch .n) && eqb (getD d i 0) (epoch .d)) ≡ carries (outcomeOf count records .packet i) (epoch .n) (epoch .d)
-      carried = sym (ap (λ (x : Given). carries x (epoch .n) (epoch .d)) (in-arrays count records accepted n d has i h .0) ∙ (unfold carries in refl))
+      carried : (eqb (getD n i 0) (epoch .n) && eqb (getD d i 0) (epoch .d)) ≡ carries (rates .packet i) (epoch .n) (epoch .d)
+      carried = sym (ap (λ (x : Given). carries x (epoch .n) (epoch .d)) (in-arrays count records accepted n d (is .rates-are) i h .0) ∙ (unfold carries in refl))
 
   next-agrees : (sheet : Sheet) (unsent : List ℕ) (x full : ℕ) → ((i : ℕ) → i < count → getD unsent i 0 ≡ sheet .unsent i)
-      → x ≡ sheet .offset → full ≡ unitsIn (dayOf count records) k (epoch .n)
-      → nextFound count epoch records n d unsent x full ≡ numberOf count (nextIn (dayOf count records) (outcomeOf count records) k (epoch .n) (epoch .d) sheet)
-  next-agrees sheet unsent x full u p q = start ∙ same ∙ go (ltb (sheet .offset) (unitsIn (dayOf count records) k (epoch .n))) theirs ∙ end
+      → x ≡ sheet .offset → full ≡ unitsIn day k (epoch .n)
+      → nextFound count epoch records n d unsent x full ≡ numberOf count (nextIn day rates k (epoch .n) (epoch .d) sheet)
+  next-agrees sheet unsent x full u p q = start ∙ same ∙ go (ltb (sheet .offset) (unitsIn day k (epoch .n))) theirs ∙ end
     where
       ours : Choice
       ours = earliest (among epoch records n d unsent) (deadlineOf records) count
 
       theirs : Choice
-      theirs = earliest (candidate (dayOf count records) (outcomeOf count records) k (epoch .n) (epoch .d) (sheet .unsent)) (deadlineOf records) count
+      theirs = earliest (candidate day rates k (epoch .n) (epoch .d) (sheet .unsent)) (deadlineOf records) count
 
-      start : nextFound count epoch records n d unsent x full ≡ choose (ltb (sheet .offset) (unitsIn (dayOf count records) k (epoch .n))) (foundOf count records ours .number) count
+      start : nextFound count epoch records n d unsent x full ≡ choose (ltb (sheet .offset) (unitsIn day k (epoch .n))) (foundOf count records ours .number) count
       start = unfold nextFound found in ap₂ (λ (a b : ℕ). choose (ltb a b) (foundOf count records ours .number) count) p q
 
-      same : choose (ltb (sheet .offset) (unitsIn (dayOf count records) k (epoch .n))) (foundOf count records ours .number) count
-          ≡ choose (ltb (sheet .offset) (unitsIn (dayOf count records) k (epoch .n))) (foundOf count records theirs .number) count
+      same : choose (ltb (sheet .offset) (unitsIn day k (epoch .n))) (foundOf count records ours .number) count
+          ≡ choose (ltb (sheet .offset) (unitsIn day k (epoch .n))) (foundOf count records theirs .number) count
       same =
-          ap (λ (c : Choice). choose (ltb (sheet .offset) (unitsIn (dayOf count records) k (epoch .n))) (foundOf count records c .number) count)
+          ap (λ (c : Choice). choose (ltb (sheet .offset) (unitsIn day k (epoch .n))) (foundOf count records c .number) count)
           (earliest-same _ _ (deadlineOf records) count (same-test sheet unsent u))
 
       go : (b : Bool) (c : Choice) → choose b (foundOf count records c .number) count ≡ numberOf count (choose b c nobody)
@@ -144,8 +144,8 @@ module _ (count : ℕ) (records : List ℕ) (accepted : Accepted count records) 
       go true (packet i) = unfold choose foundOf numberOf in refl
       go false c = unfold choose numberOf in refl
 
-      end : numberOf count (choose (ltb (sheet .offset) (unitsIn (dayOf count records) k (epoch .n))) theirs nobody)
-          ≡ numberOf count (nextIn (dayOf count records) (outcomeOf count records) k (epoch .n) (epoch .d) sheet)
+      end : numberOf count (choose (ltb (sheet .offset) (unitsIn day k (epoch .n))) theirs nobody)
+          ≡ numberOf count (nextIn day rates k (epoch .n) (epoch .d) sheet)
       end = unfold nextIn dayOf packetsOf in refl
 
   -- ## One epoch
@@ -154,27 +154,27 @@ module _ (count : ℕ) (records : List ℕ) (accepted : Accepted count records) 
   after t = afterTurns count records k epoch t
 
   -- the next stretch
-  going : (t next : ℕ) → next ≡ numberOf count (nextIn (dayOf count records) (outcomeOf count records) k (epoch .n) (epoch .d) (after t)) → next < count
-      → Stretch (dayOf count records) (outcomeOf count records) k (epoch .n) (epoch .d) (after t) next
-      (min (after t .unsent next) (unitsIn (dayOf count records) k (epoch .n) - after t .offset))
-      × (nextIn (dayOf count records) (outcomeOf count records) k (epoch .n) (epoch .d) (after t) ≡ packet next)
+  going : (t next : ℕ) → next ≡ numberOf count (nextIn day rates k (epoch .n) (epoch .d) (after t)) → next < count
+      → Stretch day rates k (epoch .n) (epoch .d) (after t) next
+      (min (after t .unsent next) (unitsIn day k (epoch .n) - after t .offset))
+      × (nextIn day rates k (epoch .n) (epoch .d) (after t) ≡ packet next)
   going t next e h =
-      go (nextIn (dayOf count records) (outcomeOf count records) k (epoch .n) (epoch .d) (after t)) refl
-      (next-is (dayOf count records) (outcomeOf count records) k (epoch .n) (epoch .d) (after t))
+      go (nextIn day rates k (epoch .n) (epoch .d) (after t)) refl
+      (next-is day rates k (epoch .n) (epoch .d) (after t))
     where
-      go : (c : Choice) → nextIn (dayOf count records) (outcomeOf count records) k (epoch .n) (epoch .d) (after t) ≡ c
-          → Next (dayOf count records) (outcomeOf count records) k (epoch .n) (epoch .d) (after t) c
-          → Stretch (dayOf count records) (outcomeOf count records) k (epoch .n) (epoch .d) (after t) next
-          (min (after t .unsent next) (unitsIn (dayOf count records) k (epoch .n) - after t .offset))
-          × (nextIn (dayOf count records) (outcomeOf count records) k (epoch .n) (epoch .d) (after t) ≡ packet next)
+      go : (c : Choice) → nextIn day rates k (epoch .n) (epoch .d) (after t) ≡ c
+          → Next day rates k (epoch .n) (epoch .d) (after t) c
+          → Stretch day rates k (epoch .n) (epoch .d) (after t) next
+          (min (after t .unsent next) (unitsIn day k (epoch .n) - after t .offset))
+          × (nextIn day rates k (epoch .n) (epoch .d) (after t) ≡ packet next)
       go _ p (none-next q) = absurd (omega (arith, e, h, ap (numberOf count) p, (none-is)))
         where
           none-is : numberOf count nobody ≡ count
           none-is = unfold numberOf in refl
       go _ p (next-one i q) =
           let w : next ≡ i = e ∙ ap (numberOf count) p ∙ one-is i in (
-            subst (λ (j : ℕ). Stretch (dayOf count records) (outcomeOf count records) k (epoch .n) (epoch .d) (after t) j
-                (min (after t .unsent j) (unitsIn (dayOf count records) k (epoch .n) - after t .offset))) (sym w) q,
+            subst (λ (j : ℕ). Stretch day rates k (epoch .n) (epoch .d) (after t) j
+                (min (after t .unsent j) (unitsIn day k (epoch .n) - after t .offset))) (sym w) q,
             p ∙ ap packet (sym w),
           )
         where
@@ -183,12 +183,12 @@ module _ (count : ℕ) (records : List ℕ) (accepted : Accepted count records) 
 
   -- the epoch's rate is in range, and its units fit
   pub rate-fits : RateInRange (epoch .n) (epoch .d)
-  rate-fits = rated count records accepted .facts .epoch-rate k (epoch .n) (epoch .d) (is .k-is) (is .rate-is)
+  rate-fits = rated count records accepted .facts .epoch-rate k (epoch .n) (epoch .d) (is .k-is) (is .given-is)
 
   pub before-end : epoch .start < epoch .end
   before-end = omega (arith, rated count records accepted .proper .epoch k (is .k-is), is .start-is, is .end-is)
 
-  pub seconds-are : epoch .end - epoch .start ≡ dayOf count records .epochs .weight k
+  pub seconds-are : epoch .end - epoch .start ≡ day .epochs .weight k
   seconds-are = sym (rated count records accepted .seconds k (is .k-is) ∙ cc (is .start-is, is .end-is))
 
   pub seconds-fit : epoch .end - epoch .start ≤ lastSecond
@@ -196,18 +196,18 @@ module _ (count : ℕ) (records : List ℕ) (accepted : Accepted count records) 
       omega (
         arith,
         seconds-are,
-        sum-at (dayOf count records .epochs .count) (dayOf count records .epochs .weight) k (is .k-is),
+        sum-at (day .epochs .count) (day .epochs .weight) k (is .k-is),
         rated count records accepted .proper .seconds,
       )
 
-  pub full-is : (full : ℕ) → full ≡ (epoch .end - epoch .start) * epoch .n → full ≡ unitsIn (dayOf count records) k (epoch .n)
+  pub full-is : (full : ℕ) → full ≡ (epoch .end - epoch .start) * epoch .n → full ≡ unitsIn day k (epoch .n)
   full-is full e = e ∙ ap (λ (x : ℕ). x * epoch .n) seconds-are ∙ (unfold unitsIn in refl)
 
-  pub full-fits : (full : ℕ) → full ≡ (epoch .end - epoch .start) * epoch .n → full ≤ 86400 * 4194240
-  full-fits full e = subst (λ (x : ℕ). x ≤ 86400 * 4194240) (sym e) (mul-le-mul seconds-fit (rate-fits .n-most))
+  pub full-fits : (full : ℕ) → full ≡ (epoch .end - epoch .start) * epoch .n → full ≤ lastSecond * mostRate
+  full-fits full e = subst (λ (x : ℕ). x ≤ lastSecond * mostRate) (sym e) (mul-le-mul seconds-fit (rate-fits .n-most))
 
   -- at the epoch's start
-  pub filling-first : (unsent entries : List ℕ) (at next full : ℕ) → Underway count records k unsent entries at → full ≡ unitsIn (dayOf count records) k (epoch .n)
+  pub filling-first : (unsent entries : List ℕ) (at next full : ℕ) → Underway count records k unsent entries at → full ≡ unitsIn day k (epoch .n)
       → next ≡ nextFound count epoch records n d unsent 0 full → Filling count records k epoch unsent entries at 0 next
   filling-first unsent entries at next full u f e =
       record {
@@ -226,20 +226,14 @@ module _ (count : ℕ) (records : List ℕ) (accepted : Accepted count records) 
       }
 
   module _ (unsent entries : List ℕ) (behind x next full : ℕ) (f : Filling count records k epoch unsent entries behind x next) (h : next < count)
-      (f-is : full ≡ unitsIn (dayOf count records) k (epoch .n)) where
-    abbrev z : Sheet
-    z = after (f .turn)
-
-    abbrev y′ : ℕ
-    y′ = min (z .unsent next) (unitsIn (dayOf count records) k (epoch .n) - z .offset)
-
-    stretch : Stretch (dayOf count records) (outcomeOf count records) k (epoch .n) (epoch .d) (after (f .turn)) next
-        (min (after (f .turn) .unsent next) (unitsIn (dayOf count records) k (epoch .n) - after (f .turn) .offset))
+      (f-is : full ≡ unitsIn day k (epoch .n)) where
+    stretch : Stretch day rates k (epoch .n) (epoch .d) (after (f .turn)) next
+        (min (after (f .turn) .unsent next) (unitsIn day k (epoch .n) - after (f .turn) .offset))
     stretch = going (f .turn) next (f .next-number) h .0
 
     pub ready : Ready unsent entries behind x next full
     ready =
-        let few : behind + 7 ≤ 1337 = omega (arith, f .sheeted .at-is, one, epochs-few count records accepted, accepted .few, packets-are, is .k-is) in
+        let few : behind + 7 ≤ entryNumbers * mostEntries = omega (arith, f .sheeted .at-is, one, epochs-few count records accepted, accepted .few, packets-are, is .k-is) in
         record {
           room = omega (arith, f .x-is, f-is, stretch .room);
           some = omega (arith, f .sheeted .unsent-is next h, stretch .some, stretch .has);
@@ -247,26 +241,26 @@ module _ (count : ℕ) (records : List ℕ) (accepted : Accepted count records) 
           few = few;
         }
       where
-        one : length (after (f .turn) .entries) < dayOf count records .packets .count + k
+        one : length (after (f .turn) .entries) < day .packets .count + k
         one =
             unfold afterTurns in
-            room-for-one (dayOf count records) (outcomeOf count records) (rated count records accepted) k (epoch .n) (epoch .d) (is .k-is) (is .rate-is) (f .turn) next _
+            room-for-one day rates (rated count records accepted) k (epoch .n) (epoch .d) (is .k-is) (is .given-is) (f .turn) next _
             (unfold afterTurns in stretch)
 
-    sends : turnOf (dayOf count records) k (epoch .n) (epoch .d) (after (f .turn)) (packet next)
-        ≡ sent (dayOf count records) k (epoch .n) (epoch .d) (after (f .turn)) next
-        (min (after (f .turn) .unsent next) (unitsIn (dayOf count records) k (epoch .n) - after (f .turn) .offset))
+    sends : turnOf day k (epoch .n) (epoch .d) (after (f .turn)) (packet next)
+        ≡ sent day k (epoch .n) (epoch .d) (after (f .turn)) next
+        (min (after (f .turn) .unsent next) (unitsIn day k (epoch .n) - after (f .turn) .offset))
     sends = unfold turnOf in refl
 
-    after-next : after (suc (f .turn)) ≡ sent (dayOf count records) k (epoch .n) (epoch .d) (after (f .turn)) next
-        (min (after (f .turn) .unsent next) (unitsIn (dayOf count records) k (epoch .n) - after (f .turn) .offset))
+    after-next : after (suc (f .turn)) ≡ sent day k (epoch .n) (epoch .d) (after (f .turn)) next
+        (min (after (f .turn) .unsent next) (unitsIn day k (epoch .n) - after (f .turn) .offset))
     after-next =
         unfold afterTurns turns in
-        (ap (turnOf (dayOf count records) k (epoch .n) (epoch .d) (after (f .turn))) (going (f .turn) next (f .next-number) h .1) ∙ sends)
+        (ap (turnOf day k (epoch .n) (epoch .d) (after (f .turn))) (going (f .turn) next (f .next-number) h .1) ∙ sends)
 
     -- what the stretch leaves in the arrays
-    sheet-next : (y r : ℕ) → y ≡ min (after (f .turn) .unsent next) (unitsIn (dayOf count records) k (epoch .n) - after (f .turn) .offset) → r ≡ setting (epoch .n) (epoch .d)
-        → Sheeted count (sent (dayOf count records) k (epoch .n) (epoch .d) (after (f .turn)) next y) (set unsent next (getD unsent next 0 - y))
+    sheet-next : (y r : ℕ) → y ≡ min (after (f .turn) .unsent next) (unitsIn day k (epoch .n) - after (f .turn) .offset) → r ≡ setting (epoch .n) (epoch .d)
+        → Sheeted count (sent day k (epoch .n) (epoch .d) (after (f .turn)) next y) (set unsent next (getD unsent next 0 - y))
         (withRow entries behind (next ∷ epoch .start ∷ r ∷ epoch .d ∷ x ∷ (x + y) ∷ epoch .n ∷ [])) (behind + 7)
     unfolding sent
     sheet-next y r y-is r-is =
@@ -285,7 +279,7 @@ module _ (count : ℕ) (records : List ℕ) (accepted : Accepted count records) 
         row = next ∷ epoch .start ∷ r ∷ epoch .d ∷ x ∷ (x + y) ∷ epoch .n ∷ []
 
         e : Entry
-        e = newEntry (dayOf count records) k (epoch .n) (epoch .d) next (after (f .turn) .offset) y
+        e = newEntry day k (epoch .n) (epoch .d) next (after (f .turn) .offset) y
 
         same-row : row ≡ e .packet ∷ e .start ∷ e .R ∷ e .D ∷ e .from ∷ e .to ∷ e .N ∷ []
         same-row = cc (is .start-is, r-is, f .x-is)
@@ -313,23 +307,23 @@ module _ (count : ℕ) (records : List ℕ) (accepted : Accepted count records) 
           next-number = n-is ∙ next-agrees (after (suc (f .turn))) unsent′ (x + y) full (here .unsent-is) x-next f-is;
         }
       where
-        same : y ≡ min (after (f .turn) .unsent next) (unitsIn (dayOf count records) k (epoch .n) - after (f .turn) .offset)
+        same : y ≡ min (after (f .turn) .unsent next) (unitsIn day k (epoch .n) - after (f .turn) .offset)
         same = y-is ∙ cc (f .sheeted .unsent-is next h, f-is, f .x-is)
 
-        sheet-is : sent (dayOf count records) k (epoch .n) (epoch .d) (after (f .turn)) next y ≡ after (suc (f .turn))
-        sheet-is = ap (sent (dayOf count records) k (epoch .n) (epoch .d) (after (f .turn)) next) same ∙ sym after-next
+        sheet-is : sent day k (epoch .n) (epoch .d) (after (f .turn)) next y ≡ after (suc (f .turn))
+        sheet-is = ap (sent day k (epoch .n) (epoch .d) (after (f .turn)) next) same ∙ sym after-next
 
         here : Sheeted count (after (suc (f .turn))) unsent′ entries′ (behind + 7)
         here =
             subst (λ (s : Sheet). Sheeted count s unsent′ entries′ (behind + 7)) sheet-is
-            (subst (λ (u : List ℕ). Sheeted count (sent (dayOf count records) k (epoch .n) (epoch .d) (after (f .turn)) next y) u entries′ (behind + 7)) (sym u-is)
-            (subst (λ (l : List ℕ). Sheeted count (sent (dayOf count records) k (epoch .n) (epoch .d) (after (f .turn)) next y) (set unsent next (getD unsent next 0 - y)) l (behind + 7)) (sym e-is)
+            (subst (λ (u : List ℕ). Sheeted count (sent day k (epoch .n) (epoch .d) (after (f .turn)) next y) u entries′ (behind + 7)) (sym u-is)
+            (subst (λ (l : List ℕ). Sheeted count (sent day k (epoch .n) (epoch .d) (after (f .turn)) next y) (set unsent next (getD unsent next 0 - y)) l (behind + 7)) (sym e-is)
             (sheet-next y r same r-is)))
 
         x-next : x + y ≡ after (suc (f .turn)) .offset
         x-next = ap (λ (a : ℕ). a + y) (f .x-is) ∙ moved ∙ ap (λ (s : Sheet). s .offset) sheet-is
           where
-            moved : after (f .turn) .offset + y ≡ sent (dayOf count records) k (epoch .n) (epoch .d) (after (f .turn)) next y .offset
+            moved : after (f .turn) .offset + y ≡ sent day k (epoch .n) (epoch .d) (after (f .turn)) next y .offset
             moved = unfold sent in refl
 
   -- nobody is next: the epoch is done
@@ -337,13 +331,13 @@ module _ (count : ℕ) (records : List ℕ) (accepted : Accepted count records) 
       → Underway count records (suc k) unsent entries behind
   filling-last unsent entries behind x next f h = subst (λ (s : Sheet). Sheeted count s unsent entries behind) done (f .sheeted)
     where
-      rest : Settled (dayOf count records) (outcomeOf count records) k (epoch .n) (epoch .d) (after (f .turn))
+      rest : Settled day rates k (epoch .n) (epoch .d) (after (f .turn))
       rest =
-          go (nextIn (dayOf count records) (outcomeOf count records) k (epoch .n) (epoch .d) (after (f .turn))) (f .next-number)
-          (next-is (dayOf count records) (outcomeOf count records) k (epoch .n) (epoch .d) (after (f .turn)))
+          go (nextIn day rates k (epoch .n) (epoch .d) (after (f .turn))) (f .next-number)
+          (next-is day rates k (epoch .n) (epoch .d) (after (f .turn)))
         where
-          go : (c : Choice) → next ≡ numberOf count c → Next (dayOf count records) (outcomeOf count records) k (epoch .n) (epoch .d) (after (f .turn)) c
-              → Settled (dayOf count records) (outcomeOf count records) k (epoch .n) (epoch .d) (after (f .turn))
+          go : (c : Choice) → next ≡ numberOf count c → Next day rates k (epoch .n) (epoch .d) (after (f .turn)) c
+              → Settled day rates k (epoch .n) (epoch .d) (after (f .turn))
           go _ p (none-next q) = q
           go _ p (next-one i q) = absurd (omega (arith, h, p ∙ one-is, q .below, packets-are))
             where
@@ -351,28 +345,28 @@ module _ (count : ℕ) (records : List ℕ) (accepted : Accepted count records) 
               one-is = unfold numberOf in refl
 
       -- from a settled sheet on nothing changes
-      stays : (t more : ℕ) → Settled (dayOf count records) (outcomeOf count records) k (epoch .n) (epoch .d) (after t) → after (t + more) ≡ after t
-      stays t more w = unfold afterTurns in turns-rest (dayOf count records) (outcomeOf count records) k (epoch .n) (epoch .d) t more _ (unfold afterTurns in w)
+      stays : (t more : ℕ) → Settled day rates k (epoch .n) (epoch .d) (after t) → after (t + more) ≡ after t
+      stays t more w = unfold afterTurns in turns-rest day rates k (epoch .n) (epoch .d) t more _ (unfold afterTurns in w)
 
-      end : Settled (dayOf count records) (outcomeOf count records) k (epoch .n) (epoch .d) (after (dayOf count records .packets .count))
-      end = unfold afterTurns in settled (dayOf count records) (outcomeOf count records) k (epoch .n) (epoch .d) _
+      end : Settled day rates k (epoch .n) (epoch .d) (after (day .packets .count))
+      end = unfold afterTurns in settled day rates k (epoch .n) (epoch .d) _
 
-      full-turns : after (f .turn) ≡ after (dayOf count records .packets .count)
+      full-turns : after (f .turn) ≡ after (day .packets .count)
       full-turns =
-          sym (stays (f .turn) (dayOf count records .packets .count) rest) ∙
-          ap after (add-comm (f .turn) (dayOf count records .packets .count)) ∙
-          stays (dayOf count records .packets .count) (f .turn) end
+          sym (stays (f .turn) (day .packets .count) rest) ∙
+          ap after (add-comm (f .turn) (day .packets .count)) ∙
+          stays (day .packets .count) (f .turn) end
 
-      done : after (f .turn) ≡ sheetAt (dayOf count records) (outcomeOf count records) (suc k)
+      done : after (f .turn) ≡ sheetAt day rates (suc k)
       done = full-turns ∙ unfolded
         where
-          unfolded : after (dayOf count records .packets .count) ≡ sheetAt (dayOf count records) (outcomeOf count records) (suc k)
+          unfolded : after (day .packets .count) ≡ sheetAt day rates (suc k)
           unfolded =
               unfold afterTurns sheetAt in
-              sym (ap (λ (g : Given). filled (dayOf count records) (outcomeOf count records) k g (sheetAt (dayOf count records) (outcomeOf count records) k)) (is .rate-is) ∙ opened)
+              sym (ap (λ (g : Given). filled day rates k g (sheetAt day rates k)) (is .given-is) ∙ opened)
             where
-              opened : filled (dayOf count records) (outcomeOf count records) k (rate (epoch .n) (epoch .d)) (sheetAt (dayOf count records) (outcomeOf count records) k)
-                  ≡ turns (dayOf count records) (outcomeOf count records) k (epoch .n) (epoch .d) (dayOf count records .packets .count) (begun (sheetAt (dayOf count records) (outcomeOf count records) k))
+              opened : filled day rates k (rate (epoch .n) (epoch .d)) (sheetAt day rates k)
+                  ≡ turns day rates k (epoch .n) (epoch .d) (day .packets .count) (begun (sheetAt day rates k))
               opened = unfold filled in refl
 
 -- ## A silent epoch

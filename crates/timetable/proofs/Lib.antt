@@ -1,4 +1,5 @@
 mod Worked
+mod Wrong
 pub mod Earliest
 pub mod Turning
 pub mod Within

@@ -1,27 +1,27 @@
 -- Every accepted list has a timetable: each entry stands where it may, in time order; every packet is sent whole, every epoch that carries a rate is full, and
 -- every figure is in range. Assumes nothing.
-use Prim.Native.Nat.{ℕ, zero, suc, pred, _+_, _-_, _*_, _^_, _<_, _≤_}
+use Prim.Native.Nat.{ℕ, suc, pred, _*_, _<_, _≤_}
 use mathlib.Core.Path.{_≡_, refl, sym, ap, subst, _∙_}
 use mathlib.Core.List.{List, [], _∷_}
 use native.Mathlib.Omega.{arith}
 use native.Mathlib.Nat.{le-trans, mul-pos, mul-le-mul, mul-le-mul-left}
-use lib.ListN.{length, getD}
+use lib.ListN.{length}
 use Rattle.packets.specs.Limits.{lastSecond}
 use Rattle.packets.specs.Records.{Accepted}
-use Rattle.policy.specs.Windows.{Given, none, rate, onlyIf, sum, unassigned}
+use Rattle.policy.specs.Windows.{Given}
 use Rattle.policy.specs.Points.{pointsOf, packetsOf, epochsOf}
 use Rattle.policy.specs.Rounds.{Day, Progress, dayOf, outcomeOf}
 use Rattle.policy.specs.Answer.{epochCount, shownD}
 use Rattle.policy.proofs.Sums.{sum-at}
 use Rattle.policy.proofs.EventPoints.{points-few, points-rising, rising-le}
-use Rattle.policy.proofs.Proper.{Proper, RateInRange}
+use Rattle.policy.proofs.Proper.{RateInRange}
 use Rattle.policy.proofs.Accepting.{proper, points-today}
 use Rattle.policy.proofs.Ending.{after-facts, all-finished}
 use Rattle.policy.proofs.Facts.{assigned}
-use Rattle.timetable.specs.Setting.{mostRate, setting}
-use Rattle.timetable.specs.Entries.{Entry, Sheet, entriesOf, exactMoment, radioMoment, sheetAt, unitsIn, unitsOf}
-use Rattle.timetable.specs.Right.{Each, Figured, InsideEpoch, Ordered, Right, Timetable, inEpoch, mostEntries, ofPacket, unitsWhere}
-use Rattle.timetable.proofs.NeverLate.{Rated, all-sent, full, reached}
+use Rattle.timetable.specs.Setting.{mostRate}
+use Rattle.timetable.specs.Entries.{Entry, entriesOf, exactMoment, radioMoment, sheetAt, unitsIn, unitsOf}
+use Rattle.timetable.specs.Right.{Each, Figured, InsideEpoch, Right, Timetable, ofPacket, unitsWhere}
+use Rattle.timetable.proofs.NeverLate.{Rated, all-sent, full, quiet}
 use Rattle.timetable.proofs.Entered.{Entered, each-map, entered}
 use Rattle.timetable.proofs.Settings.{setting-covers, setting-most, setting-some}
 
@@ -82,6 +82,7 @@ module _ (count : ℕ) (records : List ℕ) (accepted : Accepted count records) 
         ordered = here .ordered;
         whole = whole;
         full = λ k n d h p. here .epoch-units k h ∙ full day rates rated k n d h p;
+        silent = λ k h p. here .epoch-units k h ∙ quiet day rates rated k p;
         some = go (sheetAt day rates (day .epochs .count) .entries) (whole 0 (omega (arith, packets-are, accepted .some)));
         few = omega (arith, here .counted, packets-are, epochs-few, accepted .few);
       })
@@ -116,7 +117,7 @@ module _ (count : ℕ) (records : List ℕ) (accepted : Accepted count records) 
       let f = rate-in-range e r in
       let w = epoch-day (r .epoch) (r .epoch-is) in
       let R-most : e .R ≤ mostRate = subst (λ (x : ℕ). x ≤ mostRate) (sym (r .set)) (setting-most (e .N) (e .D) f) in
-      let to-most : e .to ≤ 86400 * 4194240 = le-trans (r .fits) (unfold unitsIn in mul-le-mul (w .1) (f .n-most)) in
+      let to-most : e .to ≤ lastSecond * mostRate = le-trans (r .fits) (unfold unitsIn in mul-le-mul (w .1) (f .n-most)) in
       record {
         packet-fits = omega (arith, r .packet-is, packets-are, accepted .few);
         start-fits = omega (arith, r .starts, w .0);

@@ -1,21 +1,21 @@
 -- The whole timetable in code: what the rates give each epoch, the sheet before the first epoch, and the sheet after the last. Assumes nothing.
-use Prim.Native.Nat.{ℕ, zero, suc, pred, _+_, _-_, _*_, _/_, _<_, _≤_}
-use mathlib.Core.Path.{_≡_, refl, sym, ap, subst, _∙_}
-use mathlib.Core.List.{List, [], _∷_}
+use Prim.Native.Nat.{ℕ, suc, pred, _+_, _-_, _*_, _/_, _<_, _≤_}
+use mathlib.Core.Path.{_≡_, refl, sym, ap, _∙_}
+use mathlib.Core.List.{List}
 use native.Mathlib.Omega.{arith}
 use native.Mathlib.Numerals.{add-one}
 use lib.ListN.{length, getD, take}
 use Rattle.packets.specs.Records.{Accepted}
+use Rattle.policy.specs.Windows.{Given}
 use Rattle.policy.specs.Points.{epochsOf, pointsOf}
 use Rattle.policy.specs.Rounds.{dayOf, outcomeOf}
 use Rattle.policy.specs.Steps as Steps
 use Rattle.policy.specs.Steps.{givenIn, givenOf}
 use Rattle.policy.proofs.Turning.{point-at, points-most, points-some}
-use Rattle.timetable.specs.declared.made.Timetable.{Timetable}
-use Rattle.timetable.specs.Entries.{Entry, Sheet, entriesOf, entryNumbers, numbersOf, sheetAt}
+use Rattle.timetable.specs.Entries.{entriesOf, entryNumbers, numbersOf, sheetAt}
 use Rattle.timetable.specs.Costs.{costOf}
 use Rattle.timetable.specs.Right.{mostEntries}
-use Rattle.timetable.specs.Steps.{PacketRates, Planned, Sheeted, Underway, UnitsAtFirst}
+use Rattle.timetable.specs.Steps.{EpochAt, PacketRates, Planned, Underway, UnitsAtFirst}
 use Rattle.timetable.proofs.Lists.{entries-are}
 
 module _ (count : ℕ) (records : List ℕ) (accepted : Accepted count records) (m : ℕ) (points pn pd en ed : List ℕ) (rounds : ℕ)
@@ -35,21 +35,21 @@ module _ (count : ℕ) (records : List ℕ) (accepted : Accepted count records) 
   pub packet-rates : PacketRates count records pn pd
   packet-rates i h = unfold givenIn in r .packets-are i h
 
-  module _ (k : ℕ) (h : k < m - 1) where
-    pub epoch-is : k < dayOf count records .epochs .count
-    epoch-is = omega (arith, epochs-number)
-
-    pub starts : getD points k 0 ≡ dayOf count records .epochs .from k
-    starts = unfold dayOf epochsOf in point-at count records accepted m points (r .points-are) (r .n-is) k (omega arith)
-
-    pub ends : getD points (k + 1) 0 ≡ dayOf count records .epochs .till k
-    ends = ap (λ (j : ℕ). getD points j 0) (add-one k) ∙ here
-      where
-        here : getD points (suc k) 0 ≡ dayOf count records .epochs .till k
-        here = unfold dayOf epochsOf in point-at count records accepted m points (r .points-are) (r .n-is) (suc k) (omega arith)
-
-    pub carries : givenOf (getD en k 0) (getD ed k 0) ≡ outcomeOf count records .epoch k
-    carries = r .epochs-are k (omega arith)
+  -- epoch k in the arrays
+  pub epoch-at : (k : ℕ) → k < m - 1 → (has : Given) → has ≡ givenOf (getD en k 0) (getD ed k 0)
+      → EpochAt count records k has (getD points k 0) (getD points (k + 1) 0) pn pd
+  epoch-at k h has e =
+      record {
+        accepted = accepted;
+        k-is = omega (arith, epochs-number);
+        start-is = unfold dayOf epochsOf in point-at count records accepted m points (r .points-are) (r .n-is) k (omega arith);
+        end-is = ap (λ (j : ℕ). getD points j 0) (add-one k) ∙ ends;
+        given-is = sym (e ∙ r .epochs-are k (omega arith));
+        rates-are = packet-rates;
+      }
+    where
+      ends : getD points (suc k) 0 ≡ dayOf count records .epochs .till k
+      ends = unfold dayOf epochsOf in point-at count records accepted m points (r .points-are) (r .n-is) (suc k) (omega arith)
 
   -- before the first epoch
   pub making-first : (unsent entries : List ℕ) → UnitsAtFirst count records unsent → length entries ≡ entryNumbers * mostEntries

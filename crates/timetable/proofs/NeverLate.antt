@@ -2,15 +2,15 @@
 -- every event point at most N times the seconds of its epochs still to come up to e. Over an epoch both sides lose the same, or every packet due by e that has
 -- arrived is finished, and H bounds what is to arrive. At the end nothing is unsent; and as no epoch takes more than it holds, each is full. Assumes nothing.
 use Prim.Native.Nat.{ℕ, zero, suc, _+_, _-_, _*_, _<_, _≤_}
-use mathlib.Core.Path.{_≡_, refl, sym, ap, subst, subst₂, _∙_}
+use mathlib.Core.Path.{_≡_, refl, sym, ap, subst₂, _∙_}
 use mathlib.Core.Bool.{Bool, true, false, _&&_}
 use mathlib.Core.Logic.{_⊎_, inl, inr}
 use native.Mathlib.Omega.{arith}
-use native.Mathlib.Decide.{decLe, decLt, ℕ-discrete}
-use native.Mathlib.Nat.{le-trans, mul-le-mul-left, mul-le-mul-right}
+use native.Mathlib.Decide.{decLe, ℕ-discrete}
+use native.Mathlib.Nat.{le-trans, mul-le-mul-left}
 use lib.Dec.{leb}
-use borrow.Author.Tests.{le-leb, lt-leb, leb-true, leb-false}
-use Rattle.policy.specs.Windows.{Windows, Given, none, rate, inside, onlyIf, sum, unassigned}
+use borrow.Author.Tests.{le-leb, lt-leb, leb-true}
+use Rattle.policy.specs.Windows.{Given, none, rate, inside, onlyIf, sum}
 use Rattle.policy.specs.Rounds.{Day, Progress}
 use Rattle.policy.specs.Runs.{Finished}
 use Rattle.policy.specs.Carried.{carries, carried, carriedInAll}
@@ -414,3 +414,10 @@ module _ (day : Day) (rates : Progress) (r : Rated day rates) where
           at : (i : ℕ) (b : Bool) → i < day .packets .count → onlyIf b (sheetAt day rates (day .epochs .count) .unsent i) ≡ 0
           at i true q = unfold onlyIf in all-sent i q
           at i false q = unfold onlyIf in refl
+
+  -- nothing is sent in a silent epoch
+  pub quiet : (k : ℕ) → rates .epoch k ≡ none → reached k ≡ 0
+  quiet k p = unfold sheetAt in (ap (λ (x : Given). filled day rates k x (sheetAt day rates k) .offset) p ∙ here)
+    where
+      here : filled day rates k none (sheetAt day rates k) .offset ≡ 0
+      here = unfold filled begun in refl

@@ -1,19 +1,19 @@
 -- One stretch, and the stretches of an epoch one after the other. What every stretch keeps, any number of them keeps; and as many stretches as packets
 -- settle the epoch: it is full, or no candidate is left. Each stretch that does not fill the epoch ends a packet. Assumes nothing.
-use Prim.Native.Nat.{ℕ, zero, suc, _+_, _-_, _*_, _<_, _≤_, min}
-use mathlib.Core.Path.{_≡_, refl, sym, ap, subst, _∙_}
-use mathlib.Core.Bool.{Bool, true, false, _&&_}
+use Prim.Native.Nat.{ℕ, zero, suc, _+_, _-_, _<_, _≤_, min}
+use mathlib.Core.Path.{_≡_, refl, sym, ap, _∙_}
+use mathlib.Core.Bool.{Bool, true, false}
 use mathlib.Core.Logic.{_⊎_, inl, inr}
 use native.Mathlib.Omega.{arith}
 use native.Mathlib.Decide.{decLe, ℕ-discrete}
 use native.Mathlib.Nat.{add-zero, add-suc}
-use lib.Dec.{eqb, ltb}
+use lib.Dec.{ltb}
 use borrow.Author.Tests.{eq-eqb, ne-eqb, lt-ltb, le-ltb, ltb-true, ltb-false}
-use Rattle.policy.specs.Windows.{Windows, choose, onlyIf, sum}
+use Rattle.policy.specs.Windows.{choose, onlyIf, sum}
 use Rattle.policy.specs.Rounds.{Day, Progress}
 use Rattle.policy.proofs.Sums.{sum-eq, sum-at}
 use Rattle.policy.proofs.Left.{both, both-true, not-both-ways}
-use Rattle.timetable.specs.Entries.{Entry, Choice, nobody, packet, Sheet, eligible, candidate, earliest, unitsIn, less, sent, nextIn, turnOf, turns}
+use Rattle.timetable.specs.Entries.{Choice, nobody, packet, Sheet, eligible, candidate, earliest, unitsIn, less, sent, nextIn, turnOf, turns}
 use Rattle.timetable.proofs.Earliest.{Chosen, Says, none-counts, chosen, earliest-says}
 
 -- ## Sums that differ at one number

@@ -1,20 +1,19 @@
 -- What one epoch does to the units unsent. All that is sent goes to eligible packets; and for each time e, either all of it went to deadlines up to e, or every
 -- eligible packet due by e is finished: the first packet with a later deadline is sent only when no candidate is due by e. Assumes nothing.
-use Prim.Native.Nat.{ℕ, zero, suc, _+_, _-_, _*_, _<_, _≤_}
-use mathlib.Core.Path.{_≡_, refl, sym, ap, subst, _∙_}
+use Prim.Native.Nat.{ℕ, _+_, _<_, _≤_}
+use mathlib.Core.Path.{_≡_, refl, sym, ap, _∙_}
 use mathlib.Core.Bool.{Bool, true, false, _&&_}
 use mathlib.Core.Logic.{_⊎_, inl, inr}
 use native.Mathlib.Omega.{arith}
-use native.Mathlib.Decide.{decLe, ℕ-discrete}
+use native.Mathlib.Decide.{decLe}
 use native.Mathlib.Nat.{le-trans}
-use lib.Dec.{eqb, leb, ltb}
-use borrow.Author.Tests.{le-leb, lt-leb, leb-true, lt-ltb}
-use Rattle.policy.specs.Windows.{Windows, Given, rate, inside, choose, onlyIf, sum}
+use lib.Dec.{leb}
+use borrow.Author.Tests.{le-leb, lt-ltb}
 use Rattle.policy.specs.Rounds.{Day, Progress}
 use Rattle.policy.specs.Carried.{carries}
 use Rattle.policy.proofs.Left.{both, both-true, not-both-ways}
-use Rattle.timetable.specs.Entries.{Sheet, eligible, candidate, unitsIn, less, sent, turns, begun, filled}
-use Rattle.timetable.proofs.Turning.{less-same, less-other, less-fewer, over, over-less-in, Stretch, Settled, turns-keep, settled}
+use Rattle.timetable.specs.Entries.{Sheet, eligible, candidate, unitsIn, less, sent, turns, begun}
+use Rattle.timetable.proofs.Turning.{less-other, less-fewer, over, over-less-in, Stretch, Settled, turns-keep, settled}
 
 -- packet i carries N/D
 abbrev pub same : Progress → ℕ → ℕ → ℕ → Bool

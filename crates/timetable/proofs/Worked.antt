@@ -1,6 +1,6 @@
--- The worked lists A, C, D, E and F of document 01 go through the definitions: the numbers of each entry and the radio cost; of A also the exact cost.
+-- The worked lists A to F of document 01 go through the definitions: the numbers of each entry and the radio cost; of A also the exact cost.
 -- Assumes nothing.
-use Prim.Native.Nat.{ℕ, zero, suc, pred}
+use Prim.Native.Nat.{ℕ}
 use mathlib.Core.Path.{_≡_, refl}
 use mathlib.Core.List.{List, [], _∷_}
 use Rattle.packets.specs.Limits.{airBytes}
@@ -40,7 +40,17 @@ A =
       cost = 577;
     }
 
--- two packets of one window: equal deadlines go to the lower number
+-- one byte in one second
+abbrev B : Case
+B =
+    record {
+      count = 1;
+      records = 1 ∷ 0 ∷ 1 ∷ [];
+      entries = 0 ∷ 0 ∷ 1 ∷ 1 ∷ 0 ∷ 1 ∷ 1 ∷ [];
+      cost = 1;
+    }
+
+-- two packets of one window: the lower number is sent first
 abbrev C : Case
 C =
     record {
@@ -80,9 +90,9 @@ F =
       cost = 65535;
     }
 
-worked : Holds A × Holds C × Holds D × Holds E × Holds F
+worked : Holds A × Holds B × Holds C × Holds D × Holds E × Holds F
 unfolding Holds airBytes sizeOf arrivalOf deadlineOf euclid gcd lowestN lowestD assign choose inside left onlyIf sum unassigned epochsOf packetsOf pointsOf withPoint after atFirst beats bestFrom bestOf better dayOf giveRate leads len load outcomeOf pick round roundOf taken carries inUnits priceOf priced epochCount shownD setting begun candidate earliest eligible entriesOf filled less nextIn numbersOf sent sheetAt sooner turnOf turns unitsIn unitsOf costOf radioCost
-worked = ((refl, refl), (refl, refl), (refl, refl), (refl, refl), (refl, refl))
+worked = ((refl, refl), (refl, refl), (refl, refl), (refl, refl), (refl, refl), (refl, refl))
 
 -- the exact cost of A is 2281/4
 exact-A : (lowestN (exactCostN (dayOf 3 (A .records)) (outcomeOf 3 (A .records))) (exactCostD (dayOf 3 (A .records)) (outcomeOf 3 (A .records))) ≡ 2281)

@@ -1,10 +1,10 @@
 -- The two timetables, entry by entry (document 01, "The two timetables"): earliest deadline first inside each epoch, at the epoch's rate N/D.
--- Data is counted in units of 1/D byte, offsets in units from the epoch's start. Times are seconds, rates bytes per second. Assumes nothing.
+-- The unit of data is 1/D byte, and an offset is so many units from the epoch's start. Times are seconds, rates bytes per second. Assumes nothing.
 use Prim.Native.Nat.{ℕ, zero, suc, _+_, _-_, _*_, min}
 use mathlib.Core.Bool.{Bool, _&&_}
 use mathlib.Core.List.{List, [], _∷_, _++_}
 use lib.Dec.{eqb, ltb}
-use Rattle.policy.specs.Windows.{Windows, Given, none, rate, inside, choose}
+use Rattle.policy.specs.Windows.{Given, none, rate, inside, choose}
 use Rattle.policy.specs.Rounds.{Day, Progress, dayOf, outcomeOf}
 use Rattle.policy.specs.Carried.{carries}
 use Rattle.policy.specs.Answer.{shownD, epochCount}
@@ -12,7 +12,7 @@ use Rattle.timetable.specs.Setting.{setting}
 
 -- ## Entries
 
--- one packet's stretch in one epoch
+-- what one packet sends in one go in one epoch
 pub record Entry : Type 0 where
   -- the packet's number
   pub packet : ℕ
@@ -66,7 +66,7 @@ pub data Choice : Type 0 where
   nobody : Choice
   packet : ℕ → Choice
 
--- the choice so far, or number i where that counts and its deadline is earlier; equal deadlines go to the lower number
+-- the choice so far, or number i where that counts and its deadline is strictly earlier, so that of equal deadlines the lower number stays
 unfoldable pub sooner : (ℕ → Bool) → (ℕ → ℕ) → ℕ → Choice → Choice
 sooner among deadline i nobody = choose (among i) (packet i) nobody
 sooner among deadline i (packet j) = choose (among i && ltb (deadline i) (deadline j)) (packet i) (packet j)
@@ -108,7 +108,7 @@ nextIn day rates k n d sheet =
     choose (ltb (sheet .offset) (unitsIn day k n))
     (earliest (candidate day rates k n d (sheet .unsent)) (day .packets .till) (day .packets .count)) nobody
 
--- that packet is sent until it ends or the epoch is full
+-- that packet is sent to its own end or to the epoch's, whichever comes first
 unfoldable pub turnOf : Day → ℕ → ℕ → ℕ → Sheet → Choice → Sheet
 turnOf day k n d sheet nobody = sheet
 turnOf day k n d sheet (packet i) = sent day k n d sheet i (min (sheet .unsent i) (unitsIn day k n - sheet .offset))

@@ -8,12 +8,12 @@ use mathlib.Core.List.{List, [], _∷_}
 use lib.ListN.{length}
 use lib.Dec.{eqb}
 use Rattle.packets.specs.Limits.{lastSecond}
-use Rattle.policy.specs.Windows.{Given, rate, onlyIf}
+use Rattle.policy.specs.Windows.{none, rate, onlyIf}
 use Rattle.policy.specs.Rounds.{Day, Progress}
 use Rattle.timetable.specs.Setting.{mostRate, setting}
 use Rattle.timetable.specs.Entries.{Entry, exactMoment, radioMoment, unitsIn, unitsOf}
 
--- the most entries of a timetable: each ends a packet or an epoch, of which there are at most 64 and 127 (entries)
+-- the most entries of a timetable, as many as packets and epochs: 64 and 127 (entries)
 abbrev pub mostEntries : ℕ
 mostEntries = 191
 
@@ -84,7 +84,7 @@ pub record InsideEpoch (day : Day) (e : Entry) (epoch : ℕ) : Type 0 where
   pub radio : radioMoment e (e .to) .over ≤ day .epochs .weight epoch * radioMoment e (e .to) .under
   pub not-later : (x : ℕ) → radioMoment e x .over * exactMoment e x .under ≤ exactMoment e x .over * radioMoment e x .under
 
--- all of it
+-- the entries of a day's two timetables are right
 pub record Timetable (day : Day) (rates : Progress) (entries : List Entry) : Type 0 where
   pub right : Each (Right day rates) entries
   pub ordered : Ordered entries
@@ -92,6 +92,8 @@ pub record Timetable (day : Day) (rates : Progress) (entries : List Entry) : Typ
   pub whole : (i : ℕ) → i < day .packets .count → unitsWhere (ofPacket i) entries ≡ unitsOf day rates i
   -- every epoch that carries a rate is filled exactly
   pub full : (k n d : ℕ) → k < day .epochs .count → rates .epoch k ≡ rate n d → unitsWhere (inEpoch (day .epochs .from k)) entries ≡ unitsIn day k n
+  -- nothing is sent in a silent epoch
+  pub silent : (k : ℕ) → k < day .epochs .count → rates .epoch k ≡ none → unitsWhere (inEpoch (day .epochs .from k)) entries ≡ 0
   -- there is an entry, and there are not too many
   pub some : 0 < length entries
   pub few : length entries ≤ mostEntries

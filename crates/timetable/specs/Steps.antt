@@ -1,12 +1,12 @@
 -- What the functions under the public operation give, as definitions that follow the code. The promise of the public operation does not rest on them.
 -- Seconds, bytes and units of 1/D byte. Assumes nothing.
-use Prim.Native.Nat.{ℕ, suc, _+_, _*_, _<_, _≤_, min}
+use Prim.Native.Nat.{ℕ, _+_, _*_, _<_}
 use mathlib.Core.Path.{_≡_}
 use mathlib.Core.Bool.{Bool, _&&_, _||_}
-use mathlib.Core.List.{List, [], _∷_, _++_}
+use mathlib.Core.List.{List, _++_}
 use lib.ListN.{length, getD, take, drop}
 use lib.Dec.{eqb, ltb, leb}
-use Rattle.packets.specs.Records.{arrivalOf, deadlineOf}
+use Rattle.packets.specs.Records.{Accepted, arrivalOf, deadlineOf}
 use Rattle.policy.specs.Windows.{Given, rate, choose}
 use Rattle.policy.specs.Rounds.{dayOf, outcomeOf}
 use Rattle.policy.specs.Answer.{shownD}
@@ -73,12 +73,18 @@ pub record Sheeted (count : ℕ) (sheet : Sheet) (unsent entries : List ℕ) (at
 abbrev pub Underway : ℕ → List ℕ → ℕ → List ℕ → List ℕ → ℕ → Type 0
 Underway count records k unsent entries at = Sheeted count (sheetAt (dayOf count records) (outcomeOf count records) k) unsent entries at
 
--- an epoch's figures are those of epoch k of the list, which carries its rate
-pub record EpochIs (count : ℕ) (records : List ℕ) (k : ℕ) (epoch : Epoch) : Type 0 where
+-- epoch k of accepted packets: its start and its end (seconds), what it was given, and the rates of the packets in arrays
+pub record EpochAt (count : ℕ) (records : List ℕ) (k : ℕ) (has : Given) (start end : ℕ) (n d : List ℕ) : Type 0 where
+  pub accepted : Accepted count records
   pub k-is : k < dayOf count records .epochs .count
-  pub start-is : epoch .start ≡ dayOf count records .epochs .from k
-  pub end-is : epoch .end ≡ dayOf count records .epochs .till k
-  pub rate-is : outcomeOf count records .epoch k ≡ rate (epoch .n) (epoch .d)
+  pub start-is : start ≡ dayOf count records .epochs .from k
+  pub end-is : end ≡ dayOf count records .epochs .till k
+  pub given-is : outcomeOf count records .epoch k ≡ has
+  pub rates-are : PacketRates count records n d
+
+-- the same of an epoch that carries a rate
+abbrev pub Carrying : ℕ → List ℕ → ℕ → Epoch → List ℕ → List ℕ → Type 0
+Carrying count records k epoch n d = EpochAt count records k (rate (epoch .n) (epoch .d)) (epoch .start) (epoch .end) n d
 
 -- ## The whole
 

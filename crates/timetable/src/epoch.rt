@@ -1,13 +1,11 @@
 // One epoch of the timetable: earliest deadline first from its start, until it is full or no candidate is left.
 ghost use mathlib.Core.Path.{_≡_};
 ghost use mathlib.Core.List.{[], _∷_};
-ghost use Prim.Native.Nat.{ℕ, suc, _+_, _*_, _^_, _<_, _≤_, min};
-ghost use lib.ListN.{length, getD};
-ghost use Rattle.packets.specs.Records.{Accepted};
+ghost use Prim.Native.Nat.{suc, _+_, _^_, _<_, _≤_, min};
+ghost use lib.ListN.{length};
 ghost use Rattle.policy.specs.Answer.{epochRateOf};
-ghost use Rattle.policy.specs.Rounds.{dayOf, outcomeOf};
 ghost use Rattle.timetable.specs.Setting.{setting};
-ghost use Rattle.timetable.specs.Steps.{EpochIs, PacketRates, Underway, withRow};
+ghost use Rattle.timetable.specs.Steps.{Carrying, EpochAt, Underway, withRow};
 use crate::choice::Epoch;
 use crate::choice::next_found;
 use crate::made::ENTRY_NUMBERS;
@@ -28,7 +26,7 @@ pub fn epoch_step(
     entries: &mut [u64],
     at: usize,
 ) -> usize
-    requires { ⌜ Accepted count (now records) × (k < dayOf count (now records) .epochs .count) × (start ≡ dayOf count (now records) .epochs .from k) × (end ≡ dayOf count (now records) .epochs .till k) × (epochRateOf rate ≡ outcomeOf count (now records) .epoch k) × PacketRates count (now records) (now n) (now d) × Underway count (now records) k (now unsent) (now entries) at ⌝ }
+    requires { ⌜ EpochAt count (now records) k (epochRateOf rate) start end (now n) (now d) × Underway count (now records) k (now unsent) (now entries) at ⌝ }
     ensures { λ r. ⌜ Underway count (now (records .entry)) (suc k) (now (unsent .exit)) (now (entries .exit)) r ⌝ }
 {
     match rate {
@@ -57,7 +55,7 @@ fn fill(
     entries: &mut [u64],
     at: usize,
 ) -> usize
-    requires { ⌜ Accepted count (now records) × EpochIs count (now records) k epoch × PacketRates count (now records) (now n) (now d) × Underway count (now records) k (now unsent) (now entries) at ⌝ }
+    requires { ⌜ Carrying count (now records) k epoch (now n) (now d) × Underway count (now records) k (now unsent) (now entries) at ⌝ }
     ensures { λ r. ⌜ Underway count (now (records .entry)) (suc k) (now (unsent .exit)) (now (entries .exit)) r ⌝ }
 {
     let full = cross(epoch.end - epoch.start, epoch.n);

@@ -1,7 +1,5 @@
 // The whole timetable of judged packets: epoch after epoch, then the radio cost.
 ghost use mathlib.Core.Path.{_≡_};
-ghost use Prim.Native.Nat.{_*_, _≤_};
-ghost use lib.ListN.{length};
 ghost use Rattle.packets.specs.Records.{Accepted};
 ghost use Rattle.timetable.specs.Costs.{costOf};
 ghost use Rattle.timetable.specs.Steps.{PacketDs, PacketRates, Planned, UnitsAtFirst};

@@ -1,14 +1,11 @@
-use Rattle.timetable.proofs.Choosing.{found-all}
-use mathlib.Core.Path.{ap, _∙_}
-use Prim.Native.Nat.{ℕ}
+use Rattle.timetable.proofs.Choosing.{found-all, found-next}
 -- `timetable::choice::first_found` meets its contract. The invariant: the choice so far is the choice among the first i packets. Assumes nothing.
 use Prim.Native.Nat.{_-_, _≤_}
 use mathlib.Core.Path.{_≡_, refl}
 use native.Mathlib.Omega.{arith}
 use Rattle.packets.specs.Records.{deadlineOf}
 use Rattle.timetable.specs.Entries.{earliest}
-use Rattle.timetable.specs.Steps.{among, found, foundOf}
-use Rattle.timetable.proofs.Choosing.{found-next}
+use Rattle.timetable.specs.Steps.{among, foundOf}
 use borrow.Author.Needs.{needs}
 use Rattle.timetable.proofs.choice.first_found.Statement.{statement}
 use Rattle.timetable.proofs.choice.first_found.Tie as tie

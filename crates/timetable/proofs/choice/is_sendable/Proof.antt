@@ -2,7 +2,6 @@
 use borrow.Author.Tests.{eq-eqb, ne-eqb, lt-leb, le-leb}
 use mathlib.Core.Path.{refl}
 use Rattle.timetable.specs.Steps.{sendable}
-use borrow.Author.Needs.{needs}
 use Rattle.timetable.proofs.choice.is_sendable.Statement.{statement}
 use Rattle.timetable.proofs.choice.is_sendable.Tie as tie
 

@@ -1,5 +1,5 @@
 -- `timetable::epoch::epoch_step` meets its contract: a silent epoch changes nothing, and one with a rate is filled. Assumes nothing.
-use mathlib.Core.Path.{_≡_, sym, ap, _∙_}
+use mathlib.Core.Path.{sym, ap, _∙_}
 use Rattle.policy.specs.Answer.{epochRateOf}
 use Rattle.timetable.proofs.Filling.{silent}
 use borrow.Author.Needs.{needs}
@@ -13,10 +13,10 @@ enum-known-rate : tie.Need-enum-known-rate
 enum-known-rate c = search needs
 
 fill-requires : tie.Need-fill-requires
-fill-requires c κs = (c .before .before .before .before .before .before .before .pre .0, record { k-is = c .before .before .before .before .before .before .before .pre .1; start-is = c .before .before .before .before .before .before .before .pre .2; end-is = c .before .before .before .before .before .before .before .pre .3; rate-is = sym (c .before .before .before .before .before .before .before .pre .4) ∙ ap epochRateOf (c .before .before .before .rate .given .1) }, c .before .before .before .before .before .before .before .pre .5, c .before .before .before .before .before .before .before .pre .6)
+fill-requires c κs = let a = c .before .before .before .before .before .before .before .pre .0 in (record { accepted = a .accepted; k-is = a .k-is; start-is = a .start-is; end-is = a .end-is; given-is = a .given-is ∙ ap epochRateOf (c .before .before .before .rate .given .1); rates-are = a .rates-are }, c .before .before .before .before .before .before .before .pre .1)
 
 returns : tie.Need-returns
-returns c = silent _ _ _ _ _ _ (ap epochRateOf (sym (c .enum-told .given .1)) ∙ c .before .before .before .before .pre .4) (c .before .before .before .before .pre .6)
+returns c = silent _ _ _ _ _ _ (ap epochRateOf (sym (c .enum-told .given .1)) ∙ sym (c .before .before .before .before .pre .0 .given-is)) (c .before .before .before .before .pre .1)
 
 same-length : tie.Need-same-length
 same-length c = search needs
