@@ -1,6 +1,7 @@
 /* Plans many lists with the proved library and with the independent planner, and holds the answers and every byte of every frame against each other.
  * The lists are drawn by a fixed rule, so that every run is the same: short and long days, ties, full lists, damaged bytes, truncated lists, frames one byte
- * short and exact. Prints one line and ends with status 0 where all agree. With an argument it times both planners instead (seconds for each list).
+ * short and exact. Prints one line and ends with status 0 where all agree. `compare N` compares N lists; `compare time` times both planners (seconds for each
+ * list); `compare stack` measures the library's stack (bytes).
  */
 #include "../include/downcrook.h"
 #include "independent.h"
@@ -8,6 +9,7 @@
 #include <stdlib.h>
 #include <string.h>
 #include <time.h>
+#include <ucontext.h>
 
 static uint64_t state = 0x9e3779b97f4a7c15u;
 
@@ -132,7 +134,33 @@ static int measure(int n, long lists) {
     return 0;
 }
 
+/* The stack of one call: it runs on a stack of its own that was filled with a pattern, and the bytes that lost it are counted. */
+enum { STACK = 1 << 20 };
+static uint8_t stack[STACK], full_list[LIST_ROOM], full_frame[FRAME_ROOM];
+static size_t full_length;
+static ucontext_t here, there;
+
+static void call(void) { downcrook_plan(full_list, full_length, full_frame, FRAME_ROOM); }
+
+static int measure_stack(void) {
+    struct packet packets[MOST_PACKETS];
+    for (int i = 0; i < MOST_PACKETS; i++) packets[i] = (struct packet){(uint32_t)(65535 - i), (uint32_t)(i * 600), (uint32_t)(86400 - i * 77)};
+    full_length = independent_list(packets, MOST_PACKETS, full_list);
+    memset(stack, 0xa5, STACK);
+    getcontext(&there);
+    there.uc_stack.ss_sp = stack;
+    there.uc_stack.ss_size = STACK;
+    there.uc_link = &here;
+    makecontext(&there, call, 0);
+    swapcontext(&here, &there);
+    size_t untouched = 0;
+    while (untouched < STACK && stack[untouched] == 0xa5) untouched++;
+    printf("stack of one plan of 64 packets: %zu bytes\n", STACK - untouched);
+    return 0;
+}
+
 int main(int argc, char **argv) {
+    if (argc > 1 && strcmp(argv[1], "stack") == 0) return measure_stack();
     if (argc > 1 && strcmp(argv[1], "time") == 0) {
         measure(4, 300);
         measure(16, 100);
