@@ -12,3 +12,4 @@ pub mod ExactRival
 pub mod Lists
 mod Wrong
 mod Worked
+pub mod Wholes

@@ -1,2 +1,3 @@
 pub mod Rival
 pub mod Optimum
+pub mod Whole
