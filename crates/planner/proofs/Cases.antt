@@ -26,16 +26,16 @@ use Rattle.planner.specs.Whole.{planNumbers, packetsOutcome, planOutcome
 
 -- a list: its packets (three numbers each) and its bytes; what planning it comes to; the start, N and D of each epoch; packet, start, R, D, from and to of
 -- each entry
-record Case : Type 0 where
-  count : ℕ
-  records : List ℕ
-  bytes : List ℕ
-  outcome : Outcome
-  rates : List ℕ
-  entries : List ℕ
+pub record Case : Type 0 where
+  pub count : ℕ
+  pub records : List ℕ
+  pub bytes : List ℕ
+  pub outcome : Outcome
+  pub rates : List ℕ
+  pub entries : List ℕ
 
 -- three packets, three rates
-abbrev A : Case
+abbrev pub A : Case
 A =
     record {
       count = 3;
@@ -54,7 +54,7 @@ A =
     }
 
 -- one packet of one byte in one second
-abbrev B : Case
+abbrev pub B : Case
 B =
     record {
       count = 1;
@@ -66,7 +66,7 @@ B =
     }
 
 -- two packets of one window: rate 2, the lower number first
-abbrev C : Case
+abbrev pub C : Case
 C =
     record {
       count = 2;
@@ -78,7 +78,7 @@ C =
     }
 
 -- rates 1/5 and 2
-abbrev D : Case
+abbrev pub D : Case
 D =
     record {
       count = 2;
@@ -90,7 +90,7 @@ D =
     }
 
 -- two rounds of one rate, and seconds 2 to 5 silent
-abbrev E : Case
+abbrev pub E : Case
 E =
     record {
       count = 2;
@@ -102,7 +102,7 @@ E =
     }
 
 -- the largest packet over the whole day: rate 4369/5760
-abbrev F : Case
+abbrev pub F : Case
 F =
     record {
       count = 1;
@@ -114,7 +114,7 @@ F =
     }
 
 -- what a planned list comes to: its bytes when it is written, the answer, the rates and the entries
-abbrev Planned : Case → Type 0
+abbrev pub Planned : Case → Type 0
 Planned x =
     (bytesAfter (x .count) (x .records) (replicate (length (x .bytes)) 0xff) ≡ x .bytes)
     × (planOutcome (x .bytes) 3357 ≡ x .outcome)
@@ -122,7 +122,7 @@ Planned x =
     × (planNumbers (entriesOf (x .count) (x .records)) ≡ x .entries)
 
 -- the refused lists: G has size 0, H arrives at its deadline, I is due past the last second, and J is the single byte 00
-abbrev refused : List Outcome
+abbrev pub refused : List Outcome
 refused =
     planOutcome (0x02 ∷ 0x00 ∷ 0x00 ∷ 0x00 ∷ 0x00 ∷ 0x00 ∷ 0x00 ∷ 0x80 ∷ []) 3357 ∷
     planOutcome (0x02 ∷ 0x00 ∷ 0x02 ∷ 0x00 ∷ 0x05 ∷ 0x00 ∷ 0x02 ∷ 0x80 ∷ []) 3357 ∷
@@ -130,12 +130,12 @@ refused =
     planOutcome (0x00 ∷ []) 3357 ∷ []
 
 -- the least cost of A is 2281/4
-abbrev LeastA : Type 0
+abbrev pub LeastA : Type 0
 LeastA =
     exactCostN (dayOf 3 (A .records)) (outcomeOf 3 (A .records)) * 4
     ≡ 2281 * exactCostD (dayOf 3 (A .records)) (outcomeOf 3 (A .records))
 
-cases : Planned A × Planned B × Planned C × Planned D × Planned E × Planned F
+pub cases : Planned A × Planned B × Planned C × Planned D × Planned E × Planned F
     × (refused ≡ refuses 4 0 ∷ refuses 6 0 ∷ refuses 5 0 ∷ refuses 2 0 ∷ [])
     × LeastA
 unfolding digit bit spelt fieldAt bytesFrom replaced putField total rows fieldsAt putFields fieldWidths tableWidths tableBytes unusedAt writeTable airBytes _when_else_ _then_ inOrder _given_else_ sizeOf arrivalOf deadlineOf recordTest recordAt recordTests memoryTests listBytes countOn recordsOn unusedOn wireTests writeOutcome bytesAfter euclid gcd lowestN lowestD assign choose inside left onlyIf sum unassigned epochsOf packetsOf pointsOf withPoint after atFirst beats bestFrom bestOf better dayOf giveRate leads len load outcomeOf pick round roundOf taken carries inUnits priceOf priced epochCount epochRows ratesOf shownD shownN setting begun candidate earliest eligible entriesOf filled less nextIn sent sheetAt sooner turnOf turns unitsIn unitsOf commonD costOf exactCostD exactCostIn exactCostN product radioCost frameBytes planNumbers packetsOutcome planOutcome

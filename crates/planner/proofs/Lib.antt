@@ -4,3 +4,4 @@ pub mod Packing
 pub mod Reading
 pub mod Answers
 pub mod Cases
+pub mod Wrong
