@@ -1,17 +1,23 @@
 -- Answers of wrong planners that the whole call's promise does not admit, on the worked lists. Frames of 3,357 bytes. Assumes nothing.
 use Prim.Native.Nat.{ℕ}
 use mathlib.Core.Path.{_≡_, refl, sym, ap, subst, _∙_}
-use mathlib.Core.List.{List, [], _∷_}
+use mathlib.Core.List.{List, [], _∷_, _++_}
 use native.Mathlib.Omega.{arith}
-use lib.ListN.{length, take, drop, getD}
-use Rattle.packets.specs.Outcome.{Outcome, gives, _given_else_}
+use lib.ListN.{length, drop, replicate}
+use Rattle.bits.specs.Field.{digit, bit, spelt, fieldAt}
+use Rattle.bits.specs.Table.{total, rows, fieldsAt}
+use Rattle.packets.specs.Outcome.{Outcome, gives, refuses}
+use Rattle.packets.specs.List.{countOn, recordsOn}
 use Rattle.packets.specs.declared.refusal.Refusal.{Refusal}
+use Rattle.packets.specs.declared.refusal.Refusal.the-variants.{EntryCount}
 use Rattle.packets.proofs.Answers.{refusal-gives}
-use Rattle.plan.specs.Frame.{headBytes}
+use Rattle.timetable.specs.Entries.{entriesOf}
+use Rattle.plan.specs.Entries.{entryNumbers}
+use Rattle.plan.specs.Frame.{planOn, readOutcome, entriesAfter}
 use Rattle.planner.specs.declared.PlanAnswer.{PlanAnswer}
 use Rattle.planner.specs.declared.PlanAnswer.the-variants.{Planned, Refused}
-use Rattle.planner.specs.Whole.{planAnswerOf, planOutcome, Whole}
-use Rattle.planner.proofs.Reading.{plan-reads}
+use Rattle.planner.specs.Whole.{planNumbers, planAnswerOf, planOutcome, Whole}
+use Rattle.planner.proofs.Reading.{plans, plan-reads}
 use Rattle.planner.proofs.Cases.{A, B, C, cases}
 
 -- what the promise says of a list's answer, in any frame of 3,357 bytes
@@ -37,3 +43,31 @@ not-fixed frame after after′ answer long w w′ =
     sym (at-room (B .bytes) frame after answer long w ∙ cases .1 .1) ∙ at-room (C .bytes) frame after′ answer long w′ ∙ cases .2 .1 in
     let z : _≡_ {A = ℕ} 1 2 = cc in
     omega arith
+
+-- list A is on the wire what it is in memory
+A-on-wire : (countOn (A .bytes) ≡ A .count) × (recordsOn (A .bytes) ≡ A .records)
+unfolding digit bit spelt fieldAt total rows fieldsAt countOn recordsOn
+A-on-wire = (refl, refl)
+
+-- planning list A into a frame of 3,357 bytes leaves a frame from which A's five entries and its cost are read, into any room of 1,146 numbers
+A-read : (frame after lent : List ℕ) (answer : PlanAnswer) → length frame ≡ 3357 → length lent ≡ 1146 → Whole (A .bytes) frame answer after
+    → (readOutcome (planOn after) 1146 ≡ gives (5 ∷ 577 ∷ [])) × (entriesAfter (planOn after) lent ≡ A .entries ++ drop 30 lent)
+A-read frame after lent answer long room w =
+    let planned : planOutcome (A .bytes) (length frame) ≡ gives (3 ∷ 5 ∷ 577 ∷ []) = ap (planOutcome (A .bytes)) long ∙ cases .0 .1 in
+    let told = plans (A .bytes) (length frame) (3 ∷ 5 ∷ 577 ∷ []) planned .told in
+    let five : length (entriesOf (countOn (A .bytes)) (recordsOn (A .bytes))) ≡ 5 = cc in
+    let read = plan-reads (A .bytes) frame _ lent planned (omega arith) in
+    let numbers : planNumbers (entriesOf (countOn (A .bytes)) (recordsOn (A .bytes))) ≡ A .entries =
+    ap (λ (n : ℕ). planNumbers (entriesOf n (recordsOn (A .bytes)))) (A-on-wire .0) ∙ ap (λ (r : List ℕ). planNumbers (entriesOf 3 r)) (A-on-wire .1) ∙ cases .0 .3 in
+    let is = w .1 in
+    (cc, cc)
+
+-- one that writes nothing: a frame in which no plan stands would stay such a frame
+pub not-nothing : (frame : List ℕ) (answer : PlanAnswer) → length frame ≡ 3357 → readOutcome (planOn frame) 1146 ≡ refuses 9 0
+    → Whole (A .bytes) frame answer frame → ⊥
+not-nothing frame answer long none w = refusal-gives EntryCount _ (sym none ∙ A-read frame frame (replicate 1146 0) answer long refl w .0)
+
+-- one that does its first round and gives the other packets any rate: what is read from the frame is A's entries, all five of them
+pub only-entries-of-A : (frame after lent : List ℕ) (answer : PlanAnswer) → length frame ≡ 3357 → length lent ≡ 1146 → Whole (A .bytes) frame answer after
+    → entriesAfter (planOn after) lent ≡ A .entries ++ drop 30 lent
+only-entries-of-A frame after lent answer long room w = A-read frame after lent answer long room w .1
