@@ -1,5 +1,5 @@
 -- What a call comes to: the values that it gives, or the refusal's number and place (document 01, "Refusal numbers and their order").
--- `outcomeOf..` gives the number and the values of each case of an enum answer. Assumes nothing.
+-- A definition for each enum answer gives the number and the values of each of its cases: `refusalOf`, `verdictOf` and the like. Assumes nothing.
 use Prim.Native.Nat.{ℕ, zero, suc}
 use mathlib.Core.List.{List, [], _∷_}
 use mathlib.Core.Bool.{Bool, true, false}

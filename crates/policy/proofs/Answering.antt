@@ -96,6 +96,11 @@ pub epochs-rated-one : (count : ℕ) (records lent : List ℕ) (a b : RatesAnswe
 epochs-rated-one count records lent a b x y p q =
     (rates-answer-one a b (p .answer-is ∙ sym (q .answer-is)), p .exit-is ∙ sym (q .exit-is))
 
+-- a refusal changes nothing in the lent room
+pub rates-undone : (count : ℕ) (records lent exit : List ℕ) (refusal : Refusal) → EpochsRated count records lent (Refused refusal) exit → exit ≡ lent
+unfolding ratesAfter
+rates-undone count records lent exit refusal p = p .exit-is ∙ refused-leaves refusal _ lent (p .answer-is)
+
 -- an epoch's rate is known by what was given
 pub epoch-rate-one : (a b : EpochRate) → epochRateOf a ≡ epochRateOf b → a ≡ b
 epoch-rate-one Silent Silent e = refl

@@ -95,3 +95,8 @@ pub timetabled-once : (count : ℕ) (records lent : List ℕ) (a b : TimetableAn
     → Timetabled count records lent a x → Timetabled count records lent b y → (a ≡ b) × (x ≡ y)
 timetabled-once count records lent a b x y p q =
     (timetable-answer-one a b (p .answer-is ∙ sym (q .answer-is)), p .exit-is ∙ sym (q .exit-is))
+
+-- a refusal changes nothing in the lent room
+pub timetables-undone : (count : ℕ) (records lent exit : List ℕ) (refusal : Refusal) → Timetabled count records lent (Refused refusal) exit → exit ≡ lent
+unfolding entriesAfter
+timetables-undone count records lent exit refusal p = p .exit-is ∙ refused-leaves refusal _ lent (p .answer-is)
