@@ -3,7 +3,7 @@
 use Prim.Native.Nat.{ℕ, zero, suc, _/_, _%_, _∣_}
 use mathlib.Core.Path.{_≡_}
 
--- Euclid's rule: the remainder takes the divisor's place until it is zero. The first number bounds how often.
+-- Euclid's rule: what divides a and b is what divides b and the remainder of a by b, and beside 0 it is a. The first number bounds the turns.
 unfoldable pub euclid : ℕ → ℕ → ℕ → ℕ
 euclid zero a b = a
 euclid (suc turns) a zero = a

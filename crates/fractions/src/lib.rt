@@ -22,7 +22,7 @@ pub fn lowest(load: u64, length: u64) -> Rate
     }
 }
 
-// The greatest common divisor by Euclid's rule: the remainder takes the divisor's place until it is zero.
+// The greatest common divisor by Euclid's rule: that of a and b is that of b and what a leaves over b, and beside 0 it is a.
 pub fn greatest_divisor(a: u64, b: u64) -> u64
     ensures { λ r. ⌜ r ≡ gcd a b ⌝ }
 {

@@ -54,7 +54,7 @@ bytesIn units (e ∷ entries) i =
 abbrev pub allUnits : Entry → ℕ
 allUnits e = e .to - e .from
 
--- the units of an entry that the exact timetable sends in second j: offset x is reached x/N seconds after the epoch's start, so in this second the offsets go
+-- the units of an entry that the exact timetable sends in second j: N offsets go by in a second, so in this second the offsets go
 -- from N times the seconds before it to N times the seconds up to its end (a difference below zero is 0)
 unfoldable pub unitsAt : ℕ → Entry → ℕ
 unitsAt j e = min (e .to) ((suc j - e .start) * e .N) - max (e .from) ((j - e .start) * e .N)
@@ -75,7 +75,7 @@ pub record Optimum (count : ℕ) (records : List ℕ) : Type 0 where
   -- no rival costs less than the exact timetable
   pub cheapest : (slots : ℕ) (bytes : ℕ → ℕ → Fraction) → RivalOf count records slots bytes
       → NotAbove (exactCost count records) (rivalCostOf count records slots bytes)
-  -- the exact timetable is itself a rival, with one slot a second ..
+  -- the exact timetable is among the rivals: one slot a second ..
   pub rival : RivalOf count records 1 (exactBytes count records)
   -- .. and costs as a rival what it costs: it is the cheapest
   pub attained : Equal (rivalCostOf count records 1 (exactBytes count records)) (exactCost count records)

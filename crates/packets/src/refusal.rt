@@ -5,7 +5,7 @@ ghost use Rattle.packets.specs.Outcome.{numberOf, placeOf};
 
 // Why a call refuses. A case with a place holds the index of the record or entry at fault.
 pub enum Refusal {
-    // 1: fewer bytes, or fewer lent records or entries, than the count calls for
+    // 1: the bytes, records or entries end before the count does, or there are no bytes to have a count in
     Short,
     // 2: packet count 0
     NoPackets,
@@ -19,13 +19,13 @@ pub enum Refusal {
     Arrival(usize),
     // 7: a nonzero unused bit
     UnusedBit,
-    // 8: the lent output is shorter than what must be written
+    // 8: what is lent has no room for the answer; a frame's room includes its head
     NoRoom,
-    // 9: entry count 0 or above 191 entries
+    // 9: a plan of 0 entries, or of more than 191 entries
     EntryCount,
     // 10: an entry that fails its tests
     Entry(usize),
-    // 11: cost of 2^44 or more (bytes per second, squared, times seconds)
+    // 11: a cost that does not fit 44 bits, when it is to be written (bytes per second, squared, times seconds)
     Cost,
 }
 

@@ -29,7 +29,7 @@ pub enum RatesAnswer {
     Refused(Refusal),
 }
 
-// An epoch is either silent or carries a rate.
+// What one epoch was given: nothing to send, or a rate (bytes per second).
 pub enum EpochRate {
     Silent,
     Carries(Rate),
