@@ -1,6 +1,6 @@
 -- Answers of wrong programs that the promise does not admit, each refuted on one small list. Assumes nothing.
 use Prim.Native.Nat.{ℕ}
-use mathlib.Core.Path.{_≡_, ap}
+use mathlib.Core.Path.{_≡_, sym, ap, _∙_}
 use lib.ListN.{getD}
 use native.Mathlib.Omega.{arith}
 use mathlib.Core.List.{List, [], _∷_}
@@ -42,3 +42,17 @@ uneven = 9 ∷ 0 ∷ 4 ∷ []
 not-exact-cost : (cost : ℕ) (exit : List ℕ) → (cost ≡ 27 → ⊥) → Timetabled 1 uneven room (Made 1 1 cost) exit → ⊥
 unfolding airBytes sizeOf arrivalOf deadlineOf euclid gcd lowestN lowestD assign choose inside left onlyIf sum unassigned epochsOf packetsOf pointsOf withPoint after atFirst beats bestFrom bestOf better dayOf giveRate leads len load outcomeOf pick round roundOf taken carries priceOf priced epochCount shownD setting begun candidate earliest eligible entriesOf filled less nextIn numbersOf sent sheetAt sooner turnOf turns unitsIn unitsOf costOf radioCost _when_else_ _then_ _given_else_ inOrder memoryTests recordAt recordTest recordTests timetablesOutcome
 not-exact-cost cost exit other p = let e = p .answer-is in other cc
+
+-- R rounded down: 9/4 is not sent at setting 2 (bytes per second)
+not-rounded-down : (answer : TimetableAnswer) (exit : List ℕ) → Timetabled 1 uneven room answer exit → getD exit 2 0 ≡ 2 → ⊥
+unfolding airBytes sizeOf arrivalOf deadlineOf euclid gcd lowestN lowestD assign choose inside left onlyIf sum unassigned epochsOf packetsOf pointsOf withPoint after atFirst beats bestFrom bestOf better dayOf giveRate leads len load outcomeOf pick round roundOf taken carries priceOf priced epochCount shownD setting begun candidate earliest eligible entriesOf filled less nextIn numbersOf sent sheetAt sooner turnOf turns unitsIn unitsOf costOf radioCost _when_else_ _then_ _given_else_ inOrder memoryTests recordAt recordTest recordTests timetablesOutcome entriesAfter overwritten
+not-rounded-down answer exit p down =
+    let z : _≡_ {A = ℕ} 2 3 = sym down ∙ ap (λ (l : List ℕ). getD l 2 0) (p .exit-is) in
+    omega arith
+
+-- a packet sent before it has arrived: the second packet is due first, and the first entry, from 0 seconds on, is not its own
+not-before-arrival : (answer : TimetableAnswer) (exit : List ℕ) → Timetabled 2 overtaking room answer exit → getD exit 0 0 ≡ 1 → ⊥
+unfolding airBytes sizeOf arrivalOf deadlineOf euclid gcd lowestN lowestD assign choose inside left onlyIf sum unassigned epochsOf packetsOf pointsOf withPoint after atFirst beats bestFrom bestOf better dayOf giveRate leads len load outcomeOf pick round roundOf taken carries priceOf priced epochCount shownD setting begun candidate earliest eligible entriesOf filled less nextIn numbersOf sent sheetAt sooner turnOf turns unitsIn unitsOf costOf radioCost _when_else_ _then_ _given_else_ inOrder memoryTests recordAt recordTest recordTests timetablesOutcome entriesAfter overwritten
+not-before-arrival answer exit p early =
+    let z : _≡_ {A = ℕ} 1 0 = sym early ∙ ap (λ (l : List ℕ). getD l 0 0) (p .exit-is) in
+    omega arith
