@@ -7,7 +7,9 @@ use native.Mathlib.Decide.{ℕ-discrete}
 use lib.ListN.{length, getD, set, length-set}
 use lib.Seq.{getD-set-same, getD-set-other}
 use mathlib.Core.Bool.{Bool}
-use Rattle.policy.specs.Steps.{fresh, chosen}
+use lib.Dec.{eqb}
+use Rattle.policy.specs.Steps.{fresh, chosen, leftOver}
+use Rattle.policy.proofs.Left.{onlyIf-most}
 
 -- the first i numbers are those of F
 pub record Filled (F : ℕ → ℕ) (l : List ℕ) (i : ℕ) : Type 0 where
@@ -16,6 +18,9 @@ pub record Filled (F : ℕ → ℕ) (l : List ℕ) (i : ℕ) : Type 0 where
 
 pub filled-none : (F : ℕ → ℕ) (l : List ℕ) → length l ≡ 128 → Filled F l 0
 filled-none F l h = record { room = h; below = λ k p. absurd (omega arith) }
+
+pub filled-first : (F : ℕ → ℕ) (l : List ℕ) → length l ≡ 128 → getD l 0 0 ≡ F 0 → Filled F l 1
+filled-first F l h e = record { room = h; below = λ k p. let q : k ≡ 0 = omega arith in rw q e }
 
 pub filled-more : (F : ℕ → ℕ) (l : List ℕ) (i v : ℕ) → i < 128 → Filled F l i → v ≡ F i → Filled F (set l i v) (i + 1)
 filled-more F l i v h f e = record { room = length-set l i v ∙ f .room; below = λ k p. go k p (ℕ-discrete k i) }
@@ -58,3 +63,8 @@ meeting-more P l i v h f e = record { room = length-set l i v ∙ f .room; below
     go : (k : ℕ) → k < i + 1 → Dec (k ≡ i) → P k (getD (set l i v) k 0)
     go k p (yes q) = rw (q, getD-set-same l i v 0 (omega (arith, f .room))) e
     go k p (no q) = rw (getD-set-other l i k v 0 q) (f .below k (omega (arith, q)))
+
+-- what is left of a weight is at most the weight
+pub left-over-most : (d weight left most : ℕ) → left ≡ leftOver d weight → weight ≤ most → left ≤ most
+unfolding leftOver
+left-over-most d weight left most e h = omega (arith, e, h, onlyIf-most (eqb d 0) weight)

@@ -1,95 +1,29 @@
--- The sweep finds the pick. What it carries along is the load and the length of the definition: the bytes due up to a point are those whose deadline is not
--- after it, and the seconds passed are those of the epochs before it. The leader stands before every interval that was seen, and in the end all were.
--- Assumes nothing.
-use Prim.Native.Nat.{ℕ, zero, suc, pred, _+_, _<_, _≤_}
+-- The sweep finds the pick. At a bound of the row it has the load and the length of the definition; so the leader stands before every interval that was seen,
+-- and in the end all were. Assumes nothing.
+use Prim.Native.Nat.{ℕ, zero, suc, _-_, _<_, _≤_}
 use mathlib.Core.Path.{_≡_, refl, sym, ap, subst, subst₂, _∙_}
-use mathlib.Core.Bool.{Bool, true, false, _&&_}
+use mathlib.Core.Bool.{Bool, true, false}
 use mathlib.Core.List.{List}
 use mathlib.Core.Logic.{_⊎_, inl, inr}
 use native.Mathlib.Omega.{arith}
-use native.Mathlib.Decide.{decLt, decLe, ℕ-discrete}
+use native.Mathlib.Decide.{decLt, ℕ-discrete}
 use lib.ListN.{getD}
-use lib.Dec.{eqb, leb, ltb}
-use borrow.Author.Tests.{lt-ltb, le-ltb, le-leb, lt-leb, eq-eqb, ne-eqb}
 use Rattle.policy.specs.declared.densest.Leader.{Leader}
-use Rattle.policy.specs.Windows.{unassigned, inside, onlyIf, left, sum}
 use Rattle.policy.specs.Rounds.{Day, Progress, load, len, Interval, nowhere, between, pick}
 use Rattle.policy.specs.Runs.{DataInterval}
-use Rattle.policy.specs.Steps.{countedFrom, tallied, lenTo, swept, considered, led, leaderAhead}
-use Rattle.policy.proofs.Sums.{sum-eq, sum-add, sum-none, sum-cut}
+use Rattle.policy.specs.Steps.{dueTo, swept, considered, led, leaderAhead}
 use Rattle.policy.proofs.Sweeping.{empty-stays, unmarked-stays, first-leads, ahead-leads, behind-stays}
 use Rattle.policy.proofs.Order.{before-ahead, before-behind}
 use Rattle.policy.proofs.Rule.{Positive, Standing, And, Among, figures, standing-fewer, standing-best, step-empty, step-behind, step-first, step-ahead, pick-best, best-pick}
 
--- what the sweep is given: the packets and epochs of the day, what is left of them, and the places of the deadlines
-pub record Board (day : Day) (done : Progress) (count : ℕ) (from bytes place : List ℕ) (n : ℕ) (points room marks : List ℕ) : Type 0 where
+-- what the sweep is given: arrivals and deadlines, each of them, and the load and the length that it comes to at a bound
+pub record Board (day : Day) (done : Progress) (count : ℕ) (from start passed arrivals deadlines bounds due reach : List ℕ) : Type 0 where
   pub count-is : count ≡ day .packets .count
   pub from-is : (i : ℕ) → i < count → getD from i 0 ≡ day .packets .from i
-  pub bytes-is : (i : ℕ) → i < count → getD bytes i 0 ≡ onlyIf (unassigned (done .packet i)) (day .packets .weight i)
-  pub place-in : (i : ℕ) → i < count → getD place i 0 < n
-  pub place-past : (i : ℕ) → i < count → 0 < getD place i 0
-  pub place-is : (i : ℕ) → i < count → getD points (getD place i 0) 0 ≡ day .packets .till i
-  pub n-is : n ≡ suc (day .epochs .count)
-  pub rising : (j k : ℕ) → j < k → k < n → getD points j 0 < getD points k 0
-  pub epoch-from : (k : ℕ) → k < day .epochs .count → getD points k 0 ≡ day .epochs .from k
-  pub epoch-till : (k : ℕ) → k < day .epochs .count → getD points (suc k) 0 ≡ day .epochs .till k
-  pub room-is : (k : ℕ) → k < day .epochs .count → getD room k 0 ≡ onlyIf (unassigned (done .epoch k)) (day .epochs .weight k)
-  pub marked : (b : ℕ) → b < n → (getD marks b 0 ≡ 0 → ⊥) → (j : ℕ) × (j < count) × (getD place j 0 ≡ b)
-  pub unmarked : (b : ℕ) → b < n → getD marks b 0 ≡ 0 → (j : ℕ) → j < count → getD place j 0 ≡ b → ⊥
-
--- ## What is due up to a place
-
--- the tallies of the first m places are the weights whose place is among them
-due-up-to : (count : ℕ) (from bytes place : List ℕ) (s m : ℕ)
-    → sum m (tallied count from bytes place s) ≡ sum count (λ i. onlyIf (ltb (getD place i 0) m) (countedFrom s (getD from i 0) (getD bytes i 0)))
-unfolding tallied
-due-up-to count from bytes place s zero =
-    unfold sum in sym (sum-none count (λ i. onlyIf (ltb (getD place i 0) 0) (countedFrom s (getD from i 0) (getD bytes i 0))) none-before)
-  where
-    none-before : (i : ℕ) → i < count → onlyIf (ltb (getD place i 0) 0) (countedFrom s (getD from i 0) (getD bytes i 0)) ≡ 0
-    none-before i h = rw (le-ltb (getD place i 0) 0 (omega arith)) (unfold onlyIf in refl)
-due-up-to count from bytes place s (suc m) = more (due-up-to count from bytes place s m)
-  where
-    x : ℕ → ℕ
-    x i = countedFrom s (getD from i 0) (getD bytes i 0)
-
-    one : (p v : ℕ) → onlyIf (ltb p m) v + onlyIf (eqb p m) v ≡ onlyIf (ltb p (suc m)) v
-    one p v = go (decLt p m) (ℕ-discrete p m)
-      where
-        go : Dec (p < m) → Dec (p ≡ m) → onlyIf (ltb p m) v + onlyIf (eqb p m) v ≡ onlyIf (ltb p (suc m)) v
-        go (yes a) b =
-            rw (lt-ltb p m a, ne-eqb p m (λ e. omega (arith, a, e)), lt-ltb p (suc m) (omega (arith, a))) (unfold onlyIf in omega arith)
-        go (no a) (yes b) =
-            rw (le-ltb p m (omega (arith, a)), eq-eqb p m b, lt-ltb p (suc m) (omega (arith, b))) (unfold onlyIf in omega arith)
-        go (no a) (no b) =
-            rw (le-ltb p m (omega (arith, a)), ne-eqb p m b, le-ltb p (suc m) (omega (arith, a, b))) (unfold onlyIf in omega arith)
-
-    more : sum m (λ c. sum count (λ i. onlyIf (eqb (getD place i 0) c) (x i))) ≡ sum count (λ i. onlyIf (ltb (getD place i 0) m) (x i))
-        → sum (suc m) (λ c. sum count (λ i. onlyIf (eqb (getD place i 0) c) (x i))) ≡ sum count (λ i. onlyIf (ltb (getD place i 0) (suc m)) (x i))
-    more h =
-        unfold sum in
-        (ap (λ (y : ℕ). y + sum count (λ i. onlyIf (eqb (getD place i 0) m) (x i))) h ∙
-        sym (sum-add count (λ i. onlyIf (ltb (getD place i 0) m) (x i)) (λ i. onlyIf (eqb (getD place i 0) m) (x i))) ∙
-        sum-eq count _ _ (λ i q. one (getD place i 0) (x i)))
-
--- three tests in one
-three : (t a u : Bool) (v : ℕ) → onlyIf t (onlyIf a (onlyIf u v)) ≡ onlyIf (u && (a && t)) v
-unfolding onlyIf
-three true true true v = refl
-three true true false v = refl
-three true false true v = refl
-three true false false v = refl
-three false true true v = refl
-three false true false v = refl
-three false false true v = refl
-three false false false v = refl
-
-two : (a u : Bool) (v : ℕ) → onlyIf a (onlyIf u v) ≡ onlyIf (u && (a && true)) v
-unfolding onlyIf
-two true true v = refl
-two true false v = refl
-two false true v = refl
-two false false v = refl
+  pub ends : (j : ℕ) → j < count → (k : ℕ) × (k < count) × (getD deadlines j 0 ≡ day .packets .till k)
+  pub all-ends : (k : ℕ) → k < count → (j : ℕ) × (j < count) × (getD bounds (suc j) 0 ≡ 0 → ⊥) × (getD deadlines j 0 ≡ day .packets .till k)
+  pub load-is : (s j : ℕ) → j < count → (getD bounds (suc j) 0 ≡ 0 → ⊥) → dueTo arrivals due s (suc j) ≡ load day done s (getD deadlines j 0)
+  pub len-is : (i j : ℕ) → i < count → j < count → getD reach j 0 - getD passed (getD start i 0) 0 ≡ len day done (getD from i 0) (getD deadlines j 0)
 
 -- ## The leader
 
@@ -152,165 +86,109 @@ leading-marked day done positive Seen x mark s e m d l = go (ℕ-discrete (load 
         changes (some p) (first-leads x mark s e (load day done s e) (len day done s e) m p q) (step-first day done positive Seen s e d (some p) st)
     go (no p) _ (somebody s₀ e₀ h q) st = contested p s₀ e₀ h q st (leaderAhead new x) refl
 
-module _ (day : Day) (done : Progress) (count : ℕ) (from bytes place : List ℕ) (n : ℕ) (points room marks : List ℕ) (board : Board day done count from bytes place n points room marks) where
-  -- a place is not after another exactly where its point is not
-  place-le : (j k : ℕ) → j < n → k < n → ltb j (suc k) ≡ leb (getD points j 0) (getD points k 0)
-  place-le j k h g = go (decLt j (suc k))
-    where
-      go : Dec (j < suc k) → ltb j (suc k) ≡ leb (getD points j 0) (getD points k 0)
-      go (yes p) = lt-ltb j (suc k) p ∙ sym (le-leb _ _ (upto (ℕ-discrete j k)))
-        where
-          upto : Dec (j ≡ k) → getD points j 0 ≤ getD points k 0
-          upto (yes e) = omega (arith, ap (λ (i : ℕ). getD points i 0) e)
-          upto (no e) = omega (arith, board .rising j k (omega (arith, e)) g)
-      go (no p) = le-ltb j (suc k) (omega (arith, p)) ∙ sym (lt-leb _ _ (board .rising k j (omega (arith, p)) h))
-
-  -- the bytes due up to a place are the load up to its point
-  pub load-carried : (s b : ℕ) → b < n → sum (suc b) (tallied count from bytes place s) ≡ load day done s (getD points b 0)
-  unfolding load left countedFrom inside
-  load-carried s b h =
-      due-up-to count from bytes place s (suc b) ∙
-      sum-eq count _ _ one ∙
-      ap (λ (k : ℕ). sum k (λ i. onlyIf (unassigned (done .packet i) && (leb s (day .packets .from i) && leb (day .packets .till i) (getD points b 0))) (day .packets .weight i)))
-      (board .count-is)
-    where
-      one : (i : ℕ) → i < count
-          → onlyIf (ltb (getD place i 0) (suc b)) (onlyIf (leb s (getD from i 0)) (getD bytes i 0))
-          ≡ onlyIf (unassigned (done .packet i) && (leb s (day .packets .from i) && leb (day .packets .till i) (getD points b 0))) (day .packets .weight i)
-      one i q =
-          rw (place-le (getD place i 0) b (board .place-in i q) h, board .place-is i q, board .from-is i q, board .bytes-is i q)
-          (three (leb (day .packets .till i) (getD points b 0)) (leb s (day .packets .from i)) (unassigned (done .packet i)) (day .packets .weight i))
-
-  -- the seconds passed are the length up to the point
-  pub len-carried : (s b : ℕ) → b < n → lenTo points room s b ≡ len day done s (getD points b 0)
-  unfolding len left inside lenTo
-  len-carried s b h =
-      sum-eq b _ _ passed ∙
-      sym (sum-cut (day .epochs .count) b
-      (λ k. onlyIf (unassigned (done .epoch k) && (leb s (day .epochs .from k) && leb (day .epochs .till k) (getD points b 0))) (day .epochs .weight k))
-      (omega (arith, board .n-is)) ahead)
-    where
-      passed : (k : ℕ) → k < b
-          → onlyIf (leb s (getD points k 0)) (getD room k 0)
-          ≡ onlyIf (unassigned (done .epoch k) && (leb s (day .epochs .from k) && leb (day .epochs .till k) (getD points b 0))) (day .epochs .weight k)
-      passed k q =
-          let r : k < day .epochs .count = omega (arith, board .n-is) in
-          rw (
-            board .epoch-from k r,
-            board .room-is k r,
-            ← (board .epoch-till k r),
-            ← (place-le (suc k) b (omega arith) h),
-            lt-ltb (suc k) (suc b) (omega arith),
-          )
-          (two (leb s (day .epochs .from k)) (unassigned (done .epoch k)) (day .epochs .weight k))
-
-      ahead : (k : ℕ) → b ≤ k → k < day .epochs .count
-          → onlyIf (unassigned (done .epoch k) && (leb s (day .epochs .from k) && leb (day .epochs .till k) (getD points b 0))) (day .epochs .weight k) ≡ 0
-      ahead k p q =
-          rw (← (board .epoch-till k q), ← (place-le (suc k) b (omega (arith, board .n-is)) h), le-ltb (suc k) (suc b) (omega arith))
-          (nothing (unassigned (done .epoch k)) (leb s (day .epochs .from k)) (day .epochs .weight k))
-        where
-          nothing : (u a : Bool) (v : ℕ) → onlyIf (u && (a && false)) v ≡ 0
-          nothing true true v = unfold onlyIf in refl
-          nothing true false v = unfold onlyIf in refl
-          nothing false a v = unfold onlyIf in refl
-
+module _ (day : Day) (done : Progress) (count : ℕ) (from start passed arrivals deadlines bounds due reach : List ℕ) (board : Board day done count from start passed arrivals deadlines bounds due reach) where
   -- ## The sweep
 
-  -- from s to a deadline at one of the places up to b
-  UpTo : (ℕ → ℕ → Type 0) → ℕ → ℕ → ℕ → ℕ → Type 0
-  UpTo Seen s b s' e' = Seen s' e' ⊎ ((s' ≡ s) × ((j : ℕ) × (j < count) × (getD place j 0 ≤ b) × (e' ≡ day .packets .till j)))
+  -- from s to the deadline at a bound among the first m in the row
+  UpToBound : (ℕ → ℕ → Type 0) → ℕ → ℕ → ℕ → ℕ → Type 0
+  UpToBound Seen s m s' e' = Seen s' e' ⊎ ((s' ≡ s) × ((j : ℕ) × (j < m) × (getD bounds (suc j) 0 ≡ 0 → ⊥) × (e' ≡ getD deadlines j 0)))
 
-  -- nothing is due at the first place
-  up-to-none : (Seen : ℕ → ℕ → Type 0) (s s' e' : ℕ) → UpTo Seen s 0 s' e' → Seen s' e'
-  unfolding UpTo
+  -- nothing is due before the first
+  up-to-none : (Seen : ℕ → ℕ → Type 0) (s s' e' : ℕ) → UpToBound Seen s 0 s' e' → Seen s' e'
+  unfolding UpToBound
   up-to-none Seen s s' e' (inl a) = a
-  up-to-none Seen s s' e' (inr (p, (j, h, q, r))) = absurd (omega (arith, board .place-past j h))
+  up-to-none Seen s s' e' (inr (p, (j, h, q, r))) = absurd (omega arith)
 
-  -- one place more, where it is no deadline
-  up-to-unmarked : (Seen : ℕ → ℕ → Type 0) (s b : ℕ) → suc b < n → getD marks (suc b) 0 ≡ 0 → (s' e' : ℕ) → UpTo Seen s (suc b) s' e' → UpTo Seen s b s' e'
-  unfolding UpTo
-  up-to-unmarked Seen s b h m s' e' (inl a) = inl a
-  up-to-unmarked Seen s b h m s' e' (inr (p, (j, q, r, t))) = inr (p, (j, q, omega (arith, r, board .unmarked (suc b) h m j q), t))
-
-  -- one place more, where it is a deadline
-  up-to-marked : (Seen : ℕ → ℕ → Type 0) (s b : ℕ) → suc b < n → (s' e' : ℕ) → UpTo Seen s (suc b) s' e' → And (UpTo Seen s b) s (getD points (suc b) 0) s' e'
-  unfolding UpTo
-  up-to-marked Seen s b h s' e' (inl a) = inl (inl a)
-  up-to-marked Seen s b h s' e' (inr (p, (j, q, r, t))) = go (decLe (getD place j 0) b)
+  -- one more, where there is no bound
+  up-to-unmarked : (Seen : ℕ → ℕ → Type 0) (s m : ℕ) → getD bounds (suc m) 0 ≡ 0 → (s' e' : ℕ) → UpToBound Seen s (suc m) s' e' → UpToBound Seen s m s' e'
+  unfolding UpToBound
+  up-to-unmarked Seen s m z s' e' (inl a) = inl a
+  up-to-unmarked Seen s m z s' e' (inr (p, (j, q, r, t))) = inr (p, (j, before (ℕ-discrete j m), r, t))
     where
-      go : Dec (getD place j 0 ≤ b) → And (UpTo Seen s b) s (getD points (suc b) 0) s' e'
-      go (yes x) = inl (inr (p, (j, q, x, t)))
-      go (no x) =
-          let y : getD place j 0 ≡ suc b = omega (arith, x, r) in
-          inr (p, t ∙ sym (board .place-is j q) ∙ ap (λ (k : ℕ). getD points k 0) y)
+      before : Dec (j ≡ m) → j < m
+      before (yes e) = absurd (r (ap (λ (k : ℕ). getD bounds (suc k) 0) e ∙ z))
+      before (no e) = omega (arith, q, e)
+
+  -- one more, at a bound
+  up-to-marked : (Seen : ℕ → ℕ → Type 0) (s m : ℕ) → (s' e' : ℕ) → UpToBound Seen s (suc m) s' e' → And (UpToBound Seen s m) s (getD deadlines m 0) s' e'
+  unfolding UpToBound
+  up-to-marked Seen s m s' e' (inl a) = inl (inl a)
+  up-to-marked Seen s m s' e' (inr (p, (j, q, r, t))) = go (ℕ-discrete j m)
+    where
+      go : Dec (j ≡ m) → And (UpToBound Seen s m) s (getD deadlines m 0) s' e'
+      go (yes x) = inr (p, t ∙ ap (λ (k : ℕ). getD deadlines k 0) x)
+      go (no x) = inl (inr (p, (j, omega (arith, x, q), r, t)))
 
   module _ (positive : Positive day done) where
-    -- the leader of a sweep up to place b
-    sweep-leads : (Seen : ℕ → ℕ → Type 0) (i : ℕ) → i < count → (x : Leader) → Leading day done Seen x → (b : ℕ) → b < n
-        → Leading day done (UpTo Seen (getD from i 0) b) (swept points room marks (tallied count from bytes place (getD from i 0)) (getD from i 0) x b)
+    -- the leader of a sweep over the first m in the row
+    sweep-leads : (Seen : ℕ → ℕ → Type 0) (i : ℕ) → i < count → (x : Leader) → Leading day done Seen x → (m : ℕ) → m ≤ count
+        → Leading day done (UpToBound Seen (getD from i 0) m)
+        (swept arrivals deadlines bounds due reach (getD from i 0) (getD passed (getD start i 0) 0) x m)
     unfolding swept
-    sweep-leads Seen i p x l zero h = leading-fewer day done Seen (UpTo Seen (getD from i 0) 0) x (up-to-none Seen (getD from i 0)) l
-    sweep-leads Seen i p x l (suc b) h = go (ℕ-discrete (getD marks (suc b) 0) 0) (sweep-leads Seen i p x l b (omega arith))
+    sweep-leads Seen i p x l zero h = leading-fewer day done Seen (UpToBound Seen (getD from i 0) 0) x (up-to-none Seen (getD from i 0)) l
+    sweep-leads Seen i p x l (suc m) h = go (ℕ-discrete (getD bounds (suc m) 0) 0) (sweep-leads Seen i p x l m (omega arith))
       where
         s : ℕ
         s = getD from i 0
 
+        base : ℕ
+        base = getD passed (getD start i 0) 0
+
         y : Leader
-        y = swept points room marks (tallied count from bytes place s) s x b
+        y = swept arrivals deadlines bounds due reach s base x m
 
         e : ℕ
-        e = getD points (suc b) 0
+        e = getD deadlines m 0
 
         mark : ℕ
-        mark = getD marks (suc b) 0
+        mark = getD bounds (suc m) 0
 
         Next : Leader → Type 0
-        Next = Leading day done (UpTo Seen s (suc b))
+        Next = Leading day done (UpToBound Seen s (suc m))
 
-        data-interval : (j : ℕ) × (j < count) × (getD place j 0 ≡ suc b) → DataInterval day s e
-        data-interval (j, q, r) =
+        data-interval : (k : ℕ) × (k < count) × (e ≡ day .packets .till k) → DataInterval day s e
+        data-interval (k, q, r) =
             record {
               starter = i;
-              starts = subst (λ (k : ℕ). i < k) (board .count-is) p;
+              starts = subst (λ (c : ℕ). i < c) (board .count-is) p;
               start = sym (board .from-is i p);
-              ender = j;
-              ends = subst (λ (k : ℕ). j < k) (board .count-is) q;
-              end = sym (board .place-is j q) ∙ ap (λ (k : ℕ). getD points k 0) r;
+              ender = k;
+              ends = subst (λ (c : ℕ). k < c) (board .count-is) q;
+              end = sym r;
             }
 
-        go : Dec (mark ≡ 0) → Leading day done (UpTo Seen s b) y
-            → Next (considered y mark s e (sum (suc (suc b)) (tallied count from bytes place s)) (lenTo points room s (suc b)))
-        go (yes m) l =
-            subst Next (unmarked-stays y mark s e (sum (suc (suc b)) (tallied count from bytes place s)) (lenTo points room s (suc b)) m)
-            (leading-fewer day done (UpTo Seen s b) (UpTo Seen s (suc b)) y (up-to-unmarked Seen s b h m) l)
-        go (no m) l =
-            subst₂ (λ (a c : ℕ). Next (considered y mark s e a c)) (sym (load-carried s (suc b) h)) (sym (len-carried s (suc b) h))
-            (leading-fewer day done (And (UpTo Seen s b) s e) (UpTo Seen s (suc b)) _ (up-to-marked Seen s b h)
-            (leading-marked day done positive (UpTo Seen s b) y mark s e m (data-interval (board .marked (suc b) h m)) l))
+        go : Dec (mark ≡ 0) → Leading day done (UpToBound Seen s m) y
+            → Next (considered y mark s e (dueTo arrivals due s (suc m)) (getD reach m 0 - base))
+        go (yes z) l =
+            subst Next (unmarked-stays y mark s e (dueTo arrivals due s (suc m)) (getD reach m 0 - base) z)
+            (leading-fewer day done (UpToBound Seen s m) (UpToBound Seen s (suc m)) y (up-to-unmarked Seen s m z) l)
+        go (no z) l =
+            subst₂ (λ (a c : ℕ). Next (considered y mark s e a c)) (sym (board .load-is s m h z)) (sym (board .len-is i m p h))
+            (leading-fewer day done (And (UpToBound Seen s m) s e) (UpToBound Seen s (suc m)) _ (up-to-marked Seen s m)
+            (leading-marked day done positive (UpToBound Seen s m) y mark s e z (data-interval (board .ends m h)) l))
 
     -- from one of the first m arrivals to any deadline
-    arrival-more : (m : ℕ) → m < count → (s e : ℕ) → Among day (suc m) s e → UpTo (Among day m) (getD from m 0) (pred n) s e
-    unfolding UpTo
+    arrival-more : (m : ℕ) → m < count → (s e : ℕ) → Among day (suc m) s e → UpToBound (Among day m) (getD from m 0) count s e
+    unfolding UpToBound
     arrival-more m h s e (i, p, q, (j, r, t)) = go (decLt i m)
       where
-        go : Dec (i < m) → UpTo (Among day m) (getD from m 0) (pred n) s e
+        go : Dec (i < m) → UpToBound (Among day m) (getD from m 0) count s e
         go (yes x) = inl (i, x, q, (j, r, t))
         go (no x) =
             let y : i ≡ m = omega (arith, x, p) in
-            let z : j < count = subst (λ (k : ℕ). j < k) (sym (board .count-is)) r in
-            inr (q ∙ ap (day .packets .from) y ∙ sym (board .from-is m h), (j, z, omega (arith, board .place-in j z), t))
+            let z = board .all-ends j (subst (λ (k : ℕ). j < k) (sym (board .count-is)) r) in
+            inr (q ∙ ap (day .packets .from) y ∙ sym (board .from-is m h), (z .0, z .1, z .2, t ∙ sym (z .3)))
 
     -- the leader of the first m arrivals
-    led-leads : (m : ℕ) → m ≤ count → Leading day done (Among day m) (led count from bytes place n points room marks m)
+    led-leads : (m : ℕ) → m ≤ count → Leading day done (Among day m) (led count from start passed arrivals deadlines bounds due reach m)
     unfolding led
     led-leads zero h = record { interval = nowhere; shows = nobody refl; stands = λ s e x. absurd (omega (arith, x .1)) }
     led-leads (suc m) h =
-        leading-fewer day done (UpTo (Among day m) (getD from m 0) (pred n)) (Among day (suc m)) _ (arrival-more m h)
-        (sweep-leads (Among day m) m h (led count from bytes place n points room marks m) (led-leads m (omega arith)) (pred n) (omega (arith, board .n-is)))
+        leading-fewer day done (UpToBound (Among day m) (getD from m 0) count) (Among day (suc m)) _ (arrival-more m h)
+        (sweep-leads (Among day m) m h (led count from start passed arrivals deadlines bounds due reach m) (led-leads m (omega arith)) count (omega arith))
 
     abbrev leader : Leader
-    leader = led count from bytes place n points room marks count
+    leader = led count from start passed arrivals deadlines bounds due reach count
 
     all : Leading day done (Among day (day .packets .count)) leader
     all = subst (λ (k : ℕ). Leading day done (Among day k) leader) (board .count-is) (led-leads count (omega arith))

@@ -12,7 +12,9 @@ pub mod EventPoints
 pub mod Accepting
 pub mod Sorting
 pub mod Filling
+pub mod Deadlines
 pub mod Sweeping
+pub mod Measuring
 pub mod Leading
 pub mod Turning
 pub mod Rows

@@ -1,8 +1,9 @@
 -- Laws of finite sums. Each goes by the number of terms. Assumes nothing.
 use Prim.Native.Nat.{ℕ, zero, suc, _+_, _*_, _<_, _≤_}
-use mathlib.Core.Path.{_≡_, refl, ap}
+use mathlib.Core.Path.{_≡_, refl, ap, ap₂}
 use native.Mathlib.Omega.{arith}
 use native.Mathlib.Decide.{decLt, ℕ-discrete}
+use native.Mathlib.Numerals.{add-one}
 use Rattle.policy.specs.Windows.{sum}
 
 -- equal terms
@@ -71,6 +72,10 @@ pub sum-most : (n c : ℕ) (f : ℕ → ℕ) → ((i : ℕ) → i < n → f i �
 unfolding sum
 sum-most zero c f h = omega arith
 sum-most (suc n) c f h = omega (arith, sum-most n c f (λ i p. h i (omega arith)), h n (omega arith))
+
+-- one term more, as a loop adds it
+pub sum-next : (f : ℕ → ℕ) (k : ℕ) {s r : ℕ} → s ≡ sum k f → r ≡ f k → s + r ≡ sum (k + 1) f
+sum-next f k p q = rw add-one (unfold sum in ap₂ _+_ p q)
 
 -- what is not above zero is zero
 pub none-above : (x : ℕ) → (0 < x → ⊥) → x ≡ 0

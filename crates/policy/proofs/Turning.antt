@@ -8,25 +8,26 @@ use mathlib.Core.Logic.{_⊎_, inl, inr}
 use native.Mathlib.Omega.{arith}
 use native.Mathlib.Decide.{decLt, ℕ-discrete}
 use native.Mathlib.Numerals.{sub-one, add-one}
-use lib.ListN.{length, getD, take, replicate, getD-replicate}
+use lib.ListN.{length, getD, take}
 use lib.Seq.{getD-take}
-use lib.Dec.{eqb, leb}
-use borrow.Author.Tests.{eqb-true, eq-eqb, ne-eqb, le-leb}
+use lib.Dec.{eqb, leb, ltb}
+use borrow.Author.Tests.{eq-eqb, ne-eqb}
 use Rattle.packets.specs.Records.{sizeOf, arrivalOf, deadlineOf, Accepted}
 use Rattle.packets.specs.Limits.{airBytes}
 use Rattle.fractions.specs.Fraction.{lowestN, lowestD}
 use Rattle.fractions.proofs.LowestTerms.{lowestD-positive}
 use Rattle.policy.specs.declared.densest.Leader.{Leader}
-use Rattle.policy.specs.Figures.{mostPoints}
-use Rattle.policy.specs.Windows.{Windows, Given, none, rate, unassigned, inside, onlyIf, choose, assign}
+use Rattle.policy.specs.Windows.{Windows, Given, none, rate, unassigned, inside, onlyIf, choose, assign, sum}
 use Rattle.policy.specs.Points.{pointsOf, packetsOf, epochsOf}
 use Rattle.policy.specs.Rounds.{Day, Progress, atFirst, load, len, nowhere, between, pick, giveRate, taken, roundOf, round, after, dayOf, outcomeOf}
-use Rattle.policy.specs.Steps.{Spanned, neighbours, leftOver, Left, fresh, chosen, Shared, PlaceIs, Placed, tallied, countedFrom, givenOf, SetUp, Rated, Ready, NoGifts, LeaderIs, Taken}
-use Rattle.policy.proofs.Sums.{none-above, sum-at, sum-some}
-use Rattle.policy.proofs.Left.{onlyIf-most, onlyIf-some}
-use Rattle.policy.proofs.EventPoints.{Has, points-rising, points-arrival, points-deadline, points-few, rising-at, rising-le}
+use Rattle.policy.specs.Steps.{Spanned, neighbours, leftOver, Left, fresh, chosen, Shared, PlaceIs, Placed, Gathered, Passed, countedFrom, dueTo, givenOf, SetUp, Rated, Ready, LeaderIs, Taken}
+use Rattle.policy.proofs.Sums.{sum-eq, sum-most}
+use Rattle.policy.proofs.Left.{onlyIf-most}
+use Rattle.policy.proofs.Filling.{left-over-most}
+use Rattle.policy.proofs.EventPoints.{Has, points-rising, points-arrival, points-deadline, points-few, rising-at}
 use Rattle.policy.proofs.Accepting.{proper, points-today, air-most}
 use Rattle.policy.proofs.Ending.{after-facts}
+use Rattle.policy.proofs.Measuring.{Ground, load-carried, len-carried}
 use Rattle.policy.proofs.Leading.{Board, no-leader, leader-picked}
 use Rattle.policy.proofs.Facts.{Facts}
 
@@ -122,6 +123,21 @@ pub left-most : (count most : ℕ) (weight d left : List ℕ) → ((i : ℕ) →
 unfolding leftOver
 left-most count most weight d left h l i p = omega (arith, h i p, l .is i p, onlyIf-most (eqb (getD d i 0) 0) (getD weight i 0))
 
+-- what is gathered is at most what it is gathered from
+pub gathered-most : (count m most : ℕ) (values at gathered : List ℕ) → Gathered count values at gathered → ((j : ℕ) → j < count → getD at j 0 < m)
+    → ((k : ℕ) → k < m → getD values k 0 ≤ most) → (j : ℕ) → j < count → getD gathered j 0 ≤ most
+gathered-most count m most values at gathered g w h j p = rw (g .is j p) (h (getD at j 0) (w j p))
+
+-- what is left before a point is within so many days
+pub passed-most : (n : ℕ) (seconds d passed : List ℕ) → n ≤ 128 → ((k : ℕ) → k < pred n → getD seconds k 0 ≤ 86400) → Passed n seconds d passed
+    → (b : ℕ) → b < n → getD passed b 0 ≤ 11059200
+passed-most n seconds d passed few h p b q =
+    omega (
+      arith,
+      p .is b q,
+      sum-most b 86400 (λ k. leftOver (getD d k 0) (getD seconds k 0)) (λ k r. left-over-most (getD d k 0) (getD seconds k 0) _ 86400 refl (h k (omega arith))),
+    )
+
 -- ## The board
 
 module _ (count : ℕ) (records : List ℕ) (accepted : Accepted count records) where
@@ -146,24 +162,24 @@ module _ (count : ℕ) (records : List ℕ) (accepted : Accepted count records) 
     point-rises j k h g =
         rw (point-at j (omega arith), point-at k g) (rising-at P (points-rising count records) j k h (omega (arith, n-is)))
 
-    -- the place of a deadline is found
-    pub place-found : (till place : List ℕ) → ((i : ℕ) → i < count → getD till i 0 ≡ deadlineOf records i) → Placed count till n points place
-        → (i : ℕ) → i < count → (getD place i 0 < n) × (getD points (getD place i 0) 0 ≡ deadlineOf records i)
-    place-found till place till-is placed i h = go (decLt (getD place i 0) n)
+    -- the place of a point is found
+    pub place-found : (times place : List ℕ) (value : ℕ → ℕ) → ((i : ℕ) → i < count → getD times i 0 ≡ value i) → ((i : ℕ) → i < count → Has (value i) P)
+        → Placed count times n points place → (i : ℕ) → i < count → (getD place i 0 < n) × (getD points (getD place i 0) 0 ≡ value i)
+    place-found times place value value-is has placed i h = go (decLt (getD place i 0) n)
       where
-        is : PlaceIs (getD till i 0) n points (getD place i 0)
+        is : PlaceIs (getD times i 0) n points (getD place i 0)
         is = placed .is i h
 
-        where-it-is : Has (deadlineOf records i) P
-        where-it-is = points-deadline count records i h
+        where-it-is : Has (value i) P
+        where-it-is = has i h
 
-        go : Dec (getD place i 0 < n) → (getD place i 0 < n) × (getD points (getD place i 0) 0 ≡ deadlineOf records i)
-        go (yes p) = (p, is .found p ∙ till-is i h)
+        go : Dec (getD place i 0 < n) → (getD place i 0 < n) × (getD points (getD place i 0) 0 ≡ value i)
+        go (yes p) = (p, is .found p ∙ value-is i h)
         go (no p) =
             absurd (is .before (where-it-is .0) (omega (arith, p, where-it-is .1, n-is))
-            (point-at (where-it-is .0) (omega (arith, where-it-is .1, n-is)) ∙ where-it-is .2 ∙ sym (till-is i h)))
+            (point-at (where-it-is .0) (omega (arith, where-it-is .1, n-is)) ∙ where-it-is .2 ∙ sym (value-is i h)))
 
-  module _ (n : ℕ) (points from till bytes ends seconds place marks : List ℕ) (setup : SetUp count records n points from till bytes ends seconds place marks) where
+  module _ (n : ℕ) (points from till bytes ends seconds start row bounds arrivals deadlines spots : List ℕ) (setup : SetUp count records n points from till bytes ends seconds start row bounds arrivals deadlines spots) where
     from-is : (i : ℕ) → i < count → getD from i 0 ≡ arrivalOf records i
     from-is = unfold packetsOf in setup .packets-are .from-is
 
@@ -188,86 +204,96 @@ module _ (count : ℕ) (records : List ℕ) (accepted : Accepted count records) 
     at : (k : ℕ) → k < n → getD points k 0 ≡ getD P k 0
     at = point-at n points (setup .points-are) (setup .n-is)
 
-    pub placed : (i : ℕ) → i < count → (getD place i 0 < n) × (getD points (getD place i 0) 0 ≡ deadlineOf records i)
-    placed = place-found n points (setup .points-are) (setup .n-is) till place till-is (setup .places-are)
+    abbrev place : List ℕ
+    place = setup .place
 
-    -- a deadline is not the first point
-    past-first : (i : ℕ) → i < count → 0 < getD place i 0
-    past-first i h = go (decLt 0 (getD place i 0))
-      where
-        go : Dec (0 < getD place i 0) → 0 < getD place i 0
-        go (yes p) = p
-        go (no p) =
-            absurd (omega (
-              arith,
-              accepted .sound i h .early,
-              placed i h .1,
-              at 0 n-some,
-              points-arrival count records i h .2,
-              ap (λ (k : ℕ). getD points k 0) (none-above (getD place i 0) p),
-              rising-le P (points-rising count records) 0 (points-arrival count records i h .0) (omega arith) (points-arrival count records i h .1),
-            ))
+    -- where the deadlines and the arrivals stand among the points
+    placed : (i : ℕ) → i < count → (getD place i 0 < n) × (getD points (getD place i 0) 0 ≡ deadlineOf records i)
+    placed = place-found n points (setup .points-are) (setup .n-is) till place (deadlineOf records) till-is (points-deadline count records) (setup .places-are)
 
-    -- a packet counts once at its own place
-    once : (i b : ℕ) → i < count → getD place i 0 ≡ b → onlyIf (eqb (getD place i 0) b) (countedFrom 0 (getD from i 0) (getD (replicate mostPoints 1) i 0)) ≡ 1
-    unfolding countedFrom onlyIf
-    once i b h e =
-        rw (eq-eqb (getD place i 0) b e, le-leb 0 (getD from i 0) (omega arith))
-        (getD-replicate 128 i 1 0 (omega (arith, accepted .few)))
+    started : (i : ℕ) → i < count → (getD start i 0 < n) × (getD points (getD start i 0) 0 ≡ arrivalOf records i)
+    started = place-found n points (setup .points-are) (setup .n-is) from start (arrivalOf records) from-is (points-arrival count records) (setup .starts-are)
 
-    pub marked : (b : ℕ) → b < n → (getD marks b 0 ≡ 0 → ⊥) → (j : ℕ) × (j < count) × (getD place j 0 ≡ b)
-    unfolding tallied
-    marked b h m =
-        let x = sum-some count (λ i. onlyIf (eqb (getD place i 0) b) (countedFrom 0 (getD from i 0) (getD (replicate mostPoints 1) i 0)))
-        (omega (arith, m, setup .marks-are .is b (omega (arith, n-most)))) in
-        (x .0, x .1, eqb-true (getD place (x .0) 0) b (onlyIf-some _ _ (x .2) .0))
-
-    pub unmarked : (b : ℕ) → b < n → getD marks b 0 ≡ 0 → (j : ℕ) → j < count → getD place j 0 ≡ b → ⊥
-    unfolding tallied
-    unmarked b h m j g e =
-        omega (
-          arith,
-          m,
-          setup .marks-are .is b (omega (arith, n-most)),
-          once j b g e,
-          sum-at count (λ i. onlyIf (eqb (getD place i 0) b) (countedFrom 0 (getD from i 0) (getD (replicate mostPoints 1) i 0))) j g,
-        )
+    -- a deadline along the row is that of its packet
+    row-due : (j : ℕ) → j < count → getD deadlines j 0 ≡ getD points (getD place (getD row j 0) 0) 0
+    row-due j h =
+        setup .deadlines-are .is j h ∙ till-is (getD row j 0) (setup .row-is .within j h) ∙ sym (placed (getD row j 0) (setup .row-is .within j h) .1)
 
     -- the points of an epoch are points
     within : (k : ℕ) → k < pred (length P) → (k < n) × (suc k < n) × (k < pred n)
     within k h = (omega (arith, setup .n-is), omega (arith, setup .n-is), omega (arith, setup .n-is))
 
-    -- the board of a round
-    pub board : (done : Progress) (packet-n packet-d epoch-n epoch-d bytes-left seconds-left : List ℕ)
-        → Agrees day done packet-n packet-d epoch-n epoch-d → Left count bytes packet-d bytes-left → Left (pred n) seconds epoch-d seconds-left
-        → Board day done count from bytes-left place n points seconds-left marks
+    whole : n ≡ suc (pred (length P))
+    whole = omega (arith, setup .n-is, points-some)
+
+    -- the ground of a round
+    ground : (done : Progress) (packet-n packet-d epoch-n epoch-d rest : List ℕ) → Agrees day done packet-n packet-d epoch-n epoch-d
+        → Left count bytes packet-d rest → Ground day done count from rest place n points (λ k. leftOver (getD epoch-d k 0) (getD seconds k 0))
     unfolding dayOf packetsOf epochsOf leftOver
-    board done pn pd en ed bl sl agrees bytes-left seconds-left =
+    ground done pn pd en ed rest agrees rest-is =
         record {
           count-is = refl;
           from-is = from-is;
-          bytes-is = λ i h.
-              bytes-left .is i h ∙ ap₂ onlyIf (sym (unassigned-is (getD pn i 0) (getD pd i 0)) ∙ ap unassigned (agrees .packets i h)) (bytes-are i h);
+          rest-is = λ i h.
+              rest-is .is i h ∙ ap₂ onlyIf (sym (unassigned-is (getD pn i 0) (getD pd i 0)) ∙ ap unassigned (agrees .packets i h)) (bytes-are i h);
           place-in = λ i h. placed i h .0;
-          place-past = past-first;
           place-is = λ i h. placed i h .1;
           n-is = whole;
           rising = point-rises n points (setup .points-are) (setup .n-is);
           epoch-from = λ k h. at k (within k h .0);
           epoch-till = λ k h. at (suc k) (within k h .1);
           room-is = λ k h.
-              seconds-left .is k (within k h .2) ∙
               ap₂ onlyIf (sym (unassigned-is (getD en k 0) (getD ed k 0)) ∙ ap unassigned (agrees .epochs k h))
               (seconds-are k (within k h .2) ∙ ap₂ _-_ (at (suc k) (within k h .1)) (at k (within k h .0)));
-          marked = marked;
-          unmarked = unmarked;
+        }
+
+    -- the board of a round
+    board : (done : Progress) (packet-n packet-d epoch-n epoch-d rest due passed reach : List ℕ) → Agrees day done packet-n packet-d epoch-n epoch-d
+        → Left count bytes packet-d rest → Gathered count rest row due → Passed n seconds epoch-d passed → Gathered count passed spots reach
+        → Board day done count from start passed arrivals deadlines bounds due reach
+    board done pn pd en ed rest due passed reach agrees rest-is due-is passed-is reach-is =
+        record {
+          count-is = unfold dayOf packetsOf in refl;
+          from-is = unfold dayOf packetsOf in from-is;
+          ends = λ j h. (getD row j 0, setup .row-is .within j h, ends-at j h);
+          all-ends = λ k h. let x = setup .row-is .all k h in (x .0, x .1, x .2, all-at k h (x .0) (x .1) (x .3));
+          load-is = load-is;
+          len-is = len-is;
         }
       where
-        whole : n ≡ suc (pred (length P))
-        whole = omega (arith, setup .n-is, points-some)
+        here : Ground day done count from rest place n points (λ k. leftOver (getD ed k 0) (getD seconds k 0))
+        here = ground done pn pd en ed rest agrees rest-is
+
+        ends-at : (j : ℕ) → j < count → getD deadlines j 0 ≡ day .packets .till (getD row j 0)
+        ends-at j h = row-due j h ∙ here .place-is (getD row j 0) (setup .row-is .within j h)
+
+        all-at : (k : ℕ) → k < count → (j : ℕ) → j < count → getD place (getD row j 0) 0 ≡ getD place k 0 → getD deadlines j 0 ≡ day .packets .till k
+        all-at k h j g e = row-due j g ∙ ap (λ (b : ℕ). getD points b 0) e ∙ here .place-is k h
+
+        load-is : (s j : ℕ) → j < count → (getD bounds (suc j) 0 ≡ 0 → ⊥) → dueTo arrivals due s (suc j) ≡ load day done s (getD deadlines j 0)
+        load-is s j h m =
+            unfold dueTo in
+            (sum-eq (suc j) _ (λ k. F (getD row k 0)) (λ k q. ap₂ (countedFrom s) (setup .arrivals-are .is k (omega arith)) (due-is .is k (omega arith))) ∙
+            setup .row-is .up-to j h m F ∙
+            load-carried day done count from rest place n points _ here s (getD place (getD row j 0) 0) (placed (getD row j 0) (setup .row-is .within j h) .0) ∙
+            ap (load day done s) (sym (row-due j h)))
+          where
+            F : ℕ → ℕ
+            F p = countedFrom s (getD from p 0) (getD rest p 0)
+
+        len-is : (i j : ℕ) → i < count → j < count → getD reach j 0 - getD passed (getD start i 0) 0 ≡ len day done (getD from i 0) (getD deadlines j 0)
+        len-is i j g h =
+            ap₂ _-_
+            (reach-is .is j h ∙ ap (λ (b : ℕ). getD passed b 0) (setup .spots-are .is j h) ∙ passed-is .is (getD place (getD row j 0) 0) in-row)
+            (passed-is .is (getD start i 0) (started i g .0)) ∙
+            len-carried day done count from rest place n points _ here (getD start i 0) (getD place (getD row j 0) 0) (started i g .0) in-row ∙
+            ap₂ (len day done) (started i g .1 ∙ sym (from-is i g)) (sym (row-due j h))
+          where
+            in-row : getD place (getD row j 0) 0 < n
+            in-row = placed (getD row j 0) (setup .row-is .within j h) .0
 
     -- the figures of a round are in range
-    pub ready : Ready count n bytes seconds place
+    pub ready : Ready count n bytes seconds start row spots
     ready =
         record {
           few = accepted .few;
@@ -276,20 +302,24 @@ module _ (count : ℕ) (records : List ℕ) (accepted : Accepted count records) 
           bytes-most = λ i h. rw (bytes-are i h) (air-most (sizeOf records i) (accepted .sound i h .small));
           seconds-most = λ k h.
               omega (arith, seconds-are k h, at (suc k) (omega arith), points-today count records accepted (suc k) (omega (arith, setup .n-is)));
-          place-in = λ i h. omega (arith, placed i h .0, n-most);
+          start-in = λ i h. started i h .0;
+          row-in = setup .row-is .within;
+          place-in = λ j h. rw (setup .spots-are .is j h) (placed (getD row j 0) (setup .row-is .within j h) .0);
         }
 
     -- ## One turn
 
-    module _ (r : ℕ) (packet-n packet-d epoch-n epoch-d : List ℕ) (leader : Leader) (agrees : Agrees day (after day r) packet-n packet-d epoch-n epoch-d) (leads : LeaderIs count n points from bytes seconds place marks packet-d epoch-d leader) where
+    module _ (r : ℕ) (packet-n packet-d epoch-n epoch-d : List ℕ) (leader : Leader) (agrees : Agrees day (after day r) packet-n packet-d epoch-n epoch-d) (leads : LeaderIs count n from bytes seconds start row bounds arrivals deadlines spots packet-d epoch-d leader) where
       abbrev done : Progress
       done = after day r
 
       facts-now : Facts day done
       facts-now = after-facts day (proper count records accepted) r
 
-      here : Board day done count from (leads .bytes-left) place n points (leads .seconds-left) marks
-      here = board done packet-n packet-d epoch-n epoch-d (leads .bytes-left) (leads .seconds-left) agrees (leads .bytes-kept) (leads .seconds-kept)
+      here : Board day done count from start (leads .passed) arrivals deadlines bounds (leads .due) (leads .reach)
+      here =
+          board done packet-n packet-d epoch-n epoch-d (leads .left) (leads .due) (leads .passed) (leads .reach) agrees
+          (leads .left-is) (leads .due-is) (leads .passed-is) (leads .reach-is)
 
       -- a leader is the pick
       picked : 0 < leader .load
@@ -298,7 +328,7 @@ module _ (count : ℕ) (records : List ℕ) (accepted : Accepted count records) 
           × (leader .len ≡ len day done (leader .start) (leader .end))
       picked h =
           rw (leads .leads)
-          (leader-picked day done count from (leads .bytes-left) place n points (leads .seconds-left) marks here (facts-now .positive) (rw (leads .leads) at h))
+          (leader-picked day done count from start (leads .passed) arrivals deadlines bounds (leads .due) (leads .reach) here (facts-now .positive) (rw (leads .leads) at h))
 
       -- a leader has length
       pub leader-long : 0 < leader .load → 0 < leader .len
@@ -350,7 +380,7 @@ module _ (count : ℕ) (records : List ℕ) (accepted : Accepted count records) 
         where
           none-picked : pick day done ≡ nowhere
           none-picked =
-              no-leader day done count from (leads .bytes-left) place n points (leads .seconds-left) marks here (facts-now .positive)
+              no-leader day done count from start (leads .passed) arrivals deadlines bounds (leads .due) (leads .reach) here (facts-now .positive)
               (sym (ap (λ (x : Leader). x .load) (leads .leads)) ∙ h)
 
       -- one turn on
@@ -362,9 +392,10 @@ module _ (count : ℕ) (records : List ℕ) (accepted : Accepted count records) 
     -- ## The beginning and the end
 
     -- at first nothing is given
-    pub first-agrees : (packet-n packet-d epoch-n epoch-d : List ℕ) → NoGifts packet-d epoch-d → Agrees day (after day 0) packet-n packet-d epoch-n epoch-d
+    pub first-agrees : (packet-n packet-d epoch-n epoch-d : List ℕ) → ((i : ℕ) → i < 128 → getD packet-d i 0 ≡ 0) → ((k : ℕ) → k < 128 → getD epoch-d k 0 ≡ 0)
+        → Agrees day (after day 0) packet-n packet-d epoch-n epoch-d
     unfolding after
-    first-agrees pn pd en ed empty = agrees-first day pn pd en ed packets-few epochs-few (empty .packets) (empty .epochs)
+    first-agrees pn pd en ed no-packet no-epoch = agrees-first day pn pd en ed packets-few epochs-few no-packet no-epoch
       where
         packets-few : day .packets .count ≤ 128
         packets-few = unfold dayOf packetsOf in omega (arith, accepted .few)

@@ -4,13 +4,13 @@ use Prim.Native.Nat.{ℕ, zero, suc, pred, _+_, _-_, _^_, _<_, _≤_}
 use mathlib.Core.Path.{_≡_}
 use mathlib.Core.Bool.{Bool, _&&_, _||_}
 use mathlib.Core.List.{List}
-use lib.ListN.{getD, length, take, replicate}
+use lib.ListN.{getD, length, take}
 use lib.Dec.{eqb, leb, ltb}
 use Rattle.packets.specs.Limits.{lastSecond, mostPackets}
 use Rattle.packets.specs.Records.{arrivalOf, deadlineOf}
 use Rattle.fractions.specs.Fraction.{lowestN, lowestD}
 use Rattle.policy.specs.declared.densest.Leader.{Leader}
-use Rattle.policy.specs.Figures.{largestAir, mostBytes, mostPoints}
+use Rattle.policy.specs.Figures.{largestAir, mostPoints}
 use Rattle.policy.specs.Points.{pointsOf, packetsOf}
 use Rattle.policy.specs.Rounds.{ahead, outcomeOf}
 use Rattle.policy.specs.Windows.{Windows, Given, none, rate, choose, onlyIf, sum}
@@ -60,10 +60,12 @@ chosen first a b = choose first a b
 
 -- of the first `count`, those that are fresh have N/D, and the others what they had
 pub record Shared (count : ℕ) (from till n d : List ℕ) (s e rate-n rate-d : ℕ) (n' d' : List ℕ) : Type 0 where
+  pub n-room : length n' ≡ mostPoints
+  pub d-room : length d' ≡ mostPoints
   pub n-is : (i : ℕ) → i < count → getD n' i 0 ≡ chosen (fresh (getD d i 0) s e (getD from i 0) (getD till i 0)) rate-n (getD n i 0)
   pub d-is : (i : ℕ) → i < count → getD d' i 0 ≡ chosen (fresh (getD d i 0) s e (getD from i 0) (getD till i 0)) rate-d (getD d i 0)
 
--- ## The sweep
+-- ## The row: the packets by rising deadline
 
 -- r is the first place of t among the first n points, or n
 pub record PlaceIs (t n : ℕ) (points : List ℕ) (r : ℕ) : Type 0 where
@@ -75,18 +77,42 @@ pub record PlaceIs (t n : ℕ) (points : List ℕ) (r : ℕ) : Type 0 where
 pub record Placed (count : ℕ) (times : List ℕ) (n : ℕ) (points place : List ℕ) : Type 0 where
   pub is : (i : ℕ) → i < count → PlaceIs (getD times i 0) n points (getD place i 0)
 
+-- 1 where p is c, else 0
+unfoldable pub counted : ℕ → ℕ → ℕ
+counted p c = onlyIf (eqb p c) 1
+
+-- `next` numbers stand in the row: the `filled` that stood there, and behind them those of the first `count` whose place is c
+pub record Appended (count : ℕ) (place : List ℕ) (c : ℕ) (row : List ℕ) (filled : ℕ) (row' : List ℕ) (next : ℕ) : Type 0 where
+  pub room : length row' ≡ mostPoints
+  pub more : filled ≤ next
+  pub same : (k : ℕ) → k < filled → getD row' k 0 ≡ getD row k 0
+  pub sums : (f : ℕ → ℕ) → sum next (λ k. f (getD row' k 0)) ≡ sum filled (λ k. f (getD row k 0)) + sum count (λ i. onlyIf (eqb (getD place i 0) c) (f i))
+  pub each : (k : ℕ) → filled ≤ k → k < next → (getD row' k 0 < count) × (getD place (getD row' k 0) 0 ≡ c)
+
+-- up to number j of the row stand exactly those whose place is not after that of number j
+abbrev pub UpTo : ℕ → List ℕ → List ℕ → ℕ → Type 0
+UpTo count place row j =
+    (f : ℕ → ℕ) → sum (suc j) (λ k. f (getD row k 0)) ≡ sum count (λ i. onlyIf (ltb (getD place i 0) (suc (getD place (getD row j 0) 0))) (f i))
+
+-- the row holds the first `count` by rising place, and a number above 0 stands in `bounds` behind the last of each place
+pub record InRow (count : ℕ) (place row bounds : List ℕ) : Type 0 where
+  pub within : (j : ℕ) → j < count → getD row j 0 < count
+  pub up-to : (j : ℕ) → j < count → (getD bounds (suc j) 0 ≡ 0 → ⊥) → UpTo count place row j
+  pub all : (i : ℕ) → i < count → (j : ℕ) × (j < count) × (getD bounds (suc j) 0 ≡ 0 → ⊥) × (getD place (getD row j 0) 0 ≡ getD place i 0)
+
+-- the values at the first `count` indexes
+pub record Gathered (count : ℕ) (values at gathered : List ℕ) : Type 0 where
+  pub is : (j : ℕ) → j < count → getD gathered j 0 ≡ getD values (getD at j 0) 0
+
+-- ## The sweep
+
 -- the weight of what arrives from s on
 unfoldable pub countedFrom : ℕ → ℕ → ℕ → ℕ
 countedFrom s from weight = onlyIf (leb s from) weight
 
--- the weight of the first `count` that arrive from s on and are due at place c
-unfoldable pub tallied : ℕ → List ℕ → List ℕ → List ℕ → ℕ → ℕ → ℕ
-tallied count from weights place s c =
-    sum count (λ i. onlyIf (eqb (getD place i 0) c) (countedFrom s (getD from i 0) (getD weights i 0)))
-
--- the tally of each place
-pub record Tally (count : ℕ) (from weights place : List ℕ) (s : ℕ) (due : List ℕ) : Type 0 where
-  pub is : (c : ℕ) → c < mostPoints → getD due c 0 ≡ tallied count from weights place s c
+-- the seconds left of the first b epochs, for each point b of n
+pub record Passed (n : ℕ) (seconds d passed : List ℕ) : Type 0 where
+  pub is : (b : ℕ) → b < n → getD passed b 0 ≡ sum b (λ k. leftOver (getD d k 0) (getD seconds k 0))
 
 -- load and length whose cross products fit 64 bits
 pub record Small (x : Leader) : Type 0 where
@@ -94,27 +120,29 @@ pub record Small (x : Leader) : Type 0 where
   pub len : x .len < 2 ^ 32
 
 -- figures within which a round's sums fit
-pub record Ready (count n : ℕ) (bytes seconds place : List ℕ) : Type 0 where
+pub record Ready (count n : ℕ) (bytes seconds start row spots : List ℕ) : Type 0 where
   pub few : count ≤ mostPackets
   pub some : 0 < n
   pub most : n ≤ mostPoints
   pub bytes-most : (i : ℕ) → i < count → getD bytes i 0 ≤ largestAir
   pub seconds-most : (k : ℕ) → k < pred n → getD seconds k 0 ≤ lastSecond
-  pub place-in : (i : ℕ) → i < count → getD place i 0 < mostPoints
-
--- figures within which a tally fits
-pub record TallyFits (count : ℕ) (weights place : List ℕ) : Type 0 where
-  pub few : count ≤ mostPackets
-  pub place-in : (i : ℕ) → i < count → getD place i 0 < mostPoints
-  pub weights-most : (i : ℕ) → i < count → getD weights i 0 ≤ largestAir
+  pub start-in : (i : ℕ) → i < count → getD start i 0 < n
+  pub row-in : (j : ℕ) → j < count → getD row j 0 < count
+  pub place-in : (j : ℕ) → j < count → getD spots j 0 < n
 
 -- figures within which a sweep fits
-pub record SweepFits (n : ℕ) (room due : List ℕ) (best : Leader) : Type 0 where
-  pub some : 0 < n
-  pub most : n ≤ mostPoints
-  pub room-most : (k : ℕ) → k < pred n → getD room k 0 ≤ lastSecond
-  pub due-most : (c : ℕ) → c < mostPoints → getD due c 0 ≤ mostBytes
+pub record SweepFits (count : ℕ) (due reach : List ℕ) (best : Leader) : Type 0 where
+  pub few : count ≤ mostPackets
+  pub due-most : (j : ℕ) → j < count → getD due j 0 ≤ largestAir
+  pub reach-most : (j : ℕ) → j < count → getD reach j 0 < 2 ^ 32
   pub best-small : Small best
+
+-- figures within which all sweeps fit
+pub record SweepsFit (count : ℕ) (start passed due reach : List ℕ) : Type 0 where
+  pub start-in : (i : ℕ) → i < count → getD start i 0 < mostPoints
+  pub few : count ≤ mostPackets
+  pub due-most : (j : ℕ) → j < count → getD due j 0 ≤ largestAir
+  pub reach-most : (j : ℕ) → j < count → getD reach j 0 < 2 ^ 32
 
 -- the rule over two leaders
 unfoldable pub leaderAhead : Leader → Leader → Bool
@@ -128,29 +156,23 @@ considered best mark s e load len =
     (choose (eqb (best .load) 0 || leaderAhead (record { start = s; end = e; load = load; len = len }) best)
     (record { start = s; end = e; load = load; len = len }) best))
 
--- the length with an epoch more, which counts from s on
-unfoldable pub grown : ℕ → ℕ → ℕ → ℕ → ℕ
-grown len s from seconds = len + onlyIf (leb s from) seconds
+-- the bytes of the first j in the row that arrive from s on
+unfoldable pub dueTo : List ℕ → List ℕ → ℕ → ℕ → ℕ
+dueTo arrivals due s j = sum j (λ k. countedFrom s (getD arrivals k 0) (getD due k 0))
 
--- the seconds left of the first b epochs, from s on
-unfoldable pub lenTo : List ℕ → List ℕ → ℕ → ℕ → ℕ
-lenTo points room s b = sum b (λ k. onlyIf (leb s (getD points k 0)) (getD room k 0))
-
--- the leader of what is given and the intervals from s to the points up to place b
-unfoldable pub swept : List ℕ → List ℕ → List ℕ → (ℕ → ℕ) → ℕ → Leader → ℕ → Leader
-swept points room marks due s best zero = best
-swept points room marks due s best (suc b) =
-    considered (swept points room marks due s best b) (getD marks (suc b) 0) s (getD points (suc b) 0) (sum (suc (suc b)) due) (lenTo points room s (suc b))
-
--- the same, with what is due in a list
-unfoldable pub sweptOver : List ℕ → List ℕ → List ℕ → List ℕ → ℕ → Leader → ℕ → Leader
-sweptOver points room marks due s best b = swept points room marks (λ c. getD due c 0) s best b
+-- the leader of what is given and the intervals from s to the bounds among the first j in the row; `base` seconds are left before s, and `reach` before each deadline
+unfoldable pub swept : List ℕ → List ℕ → List ℕ → List ℕ → List ℕ → ℕ → ℕ → Leader → ℕ → Leader
+swept arrivals deadlines bounds due reach s base best zero = best
+swept arrivals deadlines bounds due reach s base best (suc j) =
+    considered (swept arrivals deadlines bounds due reach s base best j) (getD bounds (suc j) 0) s (getD deadlines j 0)
+    (dueTo arrivals due s (suc j)) (getD reach j 0 - base)
 
 -- the leader of the intervals from the first i arrivals
-unfoldable pub led : ℕ → List ℕ → List ℕ → List ℕ → ℕ → List ℕ → List ℕ → List ℕ → ℕ → Leader
-led count from bytes place n points room marks zero = record { start = 0; end = 0; load = 0; len = 0 }
-led count from bytes place n points room marks (suc i) =
-    swept points room marks (tallied count from bytes place (getD from i 0)) (getD from i 0) (led count from bytes place n points room marks i) (pred n)
+unfoldable pub led : ℕ → List ℕ → List ℕ → List ℕ → List ℕ → List ℕ → List ℕ → List ℕ → List ℕ → ℕ → Leader
+led count from start passed arrivals deadlines bounds due reach zero = record { start = 0; end = 0; load = 0; len = 0 }
+led count from start passed arrivals deadlines bounds due reach (suc i) =
+    swept arrivals deadlines bounds due reach (getD from i 0) (getD passed (getD start i 0) 0)
+    (led count from start passed arrivals deadlines bounds due reach i) count
 
 -- ## The rounds
 
@@ -164,26 +186,30 @@ unfoldable pub givenIn : List ℕ → List ℕ → ℕ → Given
 givenIn n d i = givenOf (getD n i 0) (getD d i 0)
 
 -- what the rounds work on stands in these arrays
-pub record SetUp (count : ℕ) (records : List ℕ) (n : ℕ) (points from till bytes ends seconds place marks : List ℕ) : Type 0 where
+pub record SetUp (count : ℕ) (records : List ℕ) (n : ℕ) (points from till bytes ends seconds start row bounds arrivals deadlines spots : List ℕ) : Type 0 where
+  pub place : List ℕ
   pub points-are : take n points ≡ pointsOf count records
   pub n-is : n ≡ length (pointsOf count records)
   pub packets-are : Spanned (packetsOf count records) from till bytes
   pub epochs-are : Spanned (neighbours (pred n) points) points ends seconds
+  pub starts-are : Placed count from n points start
   pub places-are : Placed count till n points place
-  pub marks-are : Tally count from (replicate mostPoints 1) place 0 marks
-
--- no rate yet
-pub record NoGifts (packet-d epoch-d : List ℕ) : Type 0 where
-  pub packets : (i : ℕ) → i < mostPoints → getD packet-d i 0 ≡ 0
-  pub epochs : (k : ℕ) → k < mostPoints → getD epoch-d k 0 ≡ 0
+  pub row-is : InRow count place row bounds
+  pub arrivals-are : Gathered count from row arrivals
+  pub deadlines-are : Gathered count till row deadlines
+  pub spots-are : Gathered count place row spots
 
 -- r leads what is left of the packets and of the epochs
-pub record LeaderIs (count n : ℕ) (points from bytes seconds place marks packet-d epoch-d : List ℕ) (r : Leader) : Type 0 where
-  pub bytes-left : List ℕ
-  pub seconds-left : List ℕ
-  pub bytes-kept : Left count bytes packet-d bytes-left
-  pub seconds-kept : Left (pred n) seconds epoch-d seconds-left
-  pub leads : r ≡ led count from bytes-left place n points seconds-left marks count
+pub record LeaderIs (count n : ℕ) (from bytes seconds start row bounds arrivals deadlines spots packet-d epoch-d : List ℕ) (r : Leader) : Type 0 where
+  pub left : List ℕ
+  pub due : List ℕ
+  pub passed : List ℕ
+  pub reach : List ℕ
+  pub left-is : Left count bytes packet-d left
+  pub due-is : Gathered count left row due
+  pub passed-is : Passed n seconds epoch-d passed
+  pub reach-is : Gathered count passed spots reach
+  pub leads : r ≡ led count from start passed arrivals deadlines bounds due reach count
 
 -- the leader's packets and epochs have its density in lowest terms
 pub record Taken (count n : ℕ) (points from till ends packet-n packet-d epoch-n epoch-d : List ℕ) (r : Leader) (packet-n' packet-d' epoch-n' epoch-d' : List ℕ) : Type 0 where

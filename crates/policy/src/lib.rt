@@ -4,6 +4,7 @@ pub mod densest;
 pub mod packet;
 pub mod points;
 pub mod rates;
+pub mod row;
 pub mod spans;
 
 ghost use mathlib.Core.Path.{_≡_};

@@ -1,23 +1,28 @@
 // The rounds: each takes the densest interval and gives its packets and epochs its density, until no packet is unassigned.
+ghost use mathlib.Core.Path.{_≡_};
 ghost use Prim.Native.Nat.{_<_, _≤_};
+ghost use lib.ListN.{length};
 ghost use Rattle.packets.specs.Limits.{mostPackets};
 ghost use Rattle.packets.specs.Records.{Accepted};
 ghost use Rattle.policy.specs.Figures.{mostPoints};
-ghost use Rattle.policy.specs.Steps.{LeaderIs, NoGifts, Rated, Ready, SetUp, Taken};
+ghost use Rattle.policy.specs.Steps.{LeaderIs, Rated, Ready, SetUp, Taken};
 use crate::densest::Leader;
 use crate::densest::densest;
-use crate::densest::places;
-use crate::densest::tally;
 use crate::points::event_points;
+use crate::row::by_deadline;
+use crate::row::gather;
+use crate::row::places;
 use crate::spans::Shares;
 use crate::spans::epoch_spans;
 use crate::spans::give;
 use crate::spans::left_weights;
 use crate::spans::packet_spans;
+use crate::spans::passed_by;
 use fractions::lowest;
 
-// What the rounds work on: n points (seconds), the packets' windows (seconds) and bytes, the epochs' ends and seconds, the places of the deadlines
-// among the points, and the number of deadlines at each place.
+// What the rounds work on: n points (seconds), the packets' windows (seconds) and bytes, the epochs' ends and seconds, the places of the arrivals among the
+// points, and the row of the packets by rising deadline with arrivals, deadlines (seconds) and the spots of the deadlines
+// among the points along it.
 pub struct Setup {
     pub n: usize,
     pub points: [u64; 128],
@@ -26,8 +31,12 @@ pub struct Setup {
     pub bytes: [u64; 128],
     pub ends: [u64; 128],
     pub seconds: [u64; 128],
-    pub place: [usize; 128],
-    pub marks: [u64; 128],
+    pub start: [u64; 128],
+    pub row: [u64; 128],
+    pub bounds: [u64; 128],
+    pub arrivals: [u64; 128],
+    pub deadlines: [u64; 128],
+    pub spots: [u64; 128],
 }
 
 // What each packet and each epoch was given.
@@ -47,7 +56,7 @@ pub struct Rates {
 // What the rounds of judged packets work on.
 fn set_up(count: usize, records: &[u64]) -> Setup
     requires { ⌜ Accepted count (now records) ⌝ }
-    ensures { λ r. ⌜ SetUp count (now (records .entry)) (r .n) (r .points) (r .from) (r .till) (r .bytes) (r .ends) (r .seconds) (r .place) (r .marks) ⌝ }
+    ensures { λ r. ⌜ SetUp count (now (records .entry)) (r .n) (r .points) (r .from) (r .till) (r .bytes) (r .ends) (r .seconds) (r .start) (r .row) (r .bounds) (r .arrivals) (r .deadlines) (r .spots) ⌝ }
 {
     let found = event_points(count, records);
     let n = found.count;
@@ -59,9 +68,14 @@ fn set_up(count: usize, records: &[u64]) -> Setup
     let epochs = epoch_spans(n - 1, points);
     let ends = epochs.till;
     let seconds = epochs.weight;
+    let start = places(count, &from, n, &points);
     let place = places(count, &till, n, &points);
-    let ones = [1u64; 128];
-    let marks = tally(count, &from, &ones, &place, 0);
+    let sorted = by_deadline(count, &place, n);
+    let row = sorted.packets;
+    let bounds = sorted.bounds;
+    let arrivals = gather(count, &from, &row);
+    let deadlines = gather(count, &till, &row);
+    let spots = gather(count, &place, &row);
     Setup {
         n,
         points,
@@ -70,8 +84,12 @@ fn set_up(count: usize, records: &[u64]) -> Setup
         bytes,
         ends,
         seconds,
-        place,
-        marks,
+        start,
+        row,
+        bounds,
+        arrivals,
+        deadlines,
+        spots,
     }
 }
 
@@ -83,103 +101,162 @@ pub fn rates_of(count: usize, records: &[u64]) -> Rates
     let setup = set_up(count, records);
     let n = setup.n;
     let points = setup.points;
-    let mut gifts = no_gifts();
+    let from = setup.from;
+    let till = setup.till;
+    let bytes = setup.bytes;
+    let ends = setup.ends;
+    let seconds = setup.seconds;
+    let start = setup.start;
+    let row = setup.row;
+    let bounds = setup.bounds;
+    let arrivals = setup.arrivals;
+    let deadlines = setup.deadlines;
+    let spots = setup.spots;
+    let mut packet_n = [0u64; 128];
+    let mut packet_d = [0u64; 128];
+    let mut epoch_n = [0u64; 128];
+    let mut epoch_d = [0u64; 128];
     let mut rounds: usize = 0;
     while rounds < count {
-        let leader = leader_of(count, setup, gifts);
+        let leader = leader_of(
+            count,
+            n,
+            &from,
+            &bytes,
+            &seconds,
+            &start,
+            &row,
+            &bounds,
+            &arrivals,
+            &deadlines,
+            &spots,
+            &packet_d,
+            &epoch_d,
+        );
         if leader.load == 0 {
-            return Rates {
-                n,
-                points,
-                gifts,
-                rounds,
-            };
+            return together(n, points, packet_n, packet_d, epoch_n, epoch_d, rounds);
         }
-        gifts = take(count, setup, gifts, leader);
+        take(
+            count,
+            n,
+            &points,
+            &from,
+            &till,
+            &ends,
+            &mut packet_n,
+            &mut packet_d,
+            &mut epoch_n,
+            &mut epoch_d,
+            leader,
+        );
         rounds += 1;
     }
+    together(n, points, packet_n, packet_d, epoch_n, epoch_d, rounds)
+}
+
+// The rates, put together.
+fn together(
+    n: usize,
+    points: [u64; 128],
+    packet_n: [u64; 128],
+    packet_d: [u64; 128],
+    epoch_n: [u64; 128],
+    epoch_d: [u64; 128],
+    rounds: usize,
+) -> Rates
+    ensures { λ r. ⌜ r ≡ record { n = n; points = points; gifts = record { packets = record { n = «packet_n»; d = «packet_d» }; epochs = record { n = «epoch_n»; d = «epoch_d» } }; rounds = rounds } ⌝ }
+{
+    let packets = Shares {
+        n: packet_n,
+        d: packet_d,
+    };
+    let epochs = Shares {
+        n: epoch_n,
+        d: epoch_d,
+    };
     Rates {
         n,
         points,
-        gifts,
+        gifts: Gifts { packets, epochs },
         rounds,
     }
 }
 
-// No rate yet.
-fn no_gifts() -> Gifts
-    ensures { λ r. ⌜ NoGifts (r .packets .d) (r .epochs .d) ⌝ }
-{
-    let none = Shares {
-        n: [0u64; 128],
-        d: [0u64; 128],
-    };
-    Gifts {
-        packets: none,
-        epochs: none,
-    }
-}
-
 // The round's leader.
-fn leader_of(count: usize, setup: Setup, gifts: Gifts) -> Leader
-    requires { ⌜ Ready count (setup .n) (setup .bytes) (setup .seconds) (setup .place) ⌝ }
-    ensures { λ r. ⌜ LeaderIs count (setup .n) (setup .points) (setup .from) (setup .bytes) (setup .seconds) (setup .place) (setup .marks) (gifts .packets .d) (gifts .epochs .d) r ⌝ }
+fn leader_of(
+    count: usize,
+    n: usize,
+    from: &[u64; 128],
+    bytes: &[u64; 128],
+    seconds: &[u64; 128],
+    start: &[u64; 128],
+    row: &[u64; 128],
+    bounds: &[u64; 128],
+    arrivals: &[u64; 128],
+    deadlines: &[u64; 128],
+    spots: &[u64; 128],
+    packet_d: &[u64; 128],
+    epoch_d: &[u64; 128],
+) -> Leader
+    requires { ⌜ Ready count n (now bytes) (now seconds) (now start) (now row) (now spots) ⌝ }
+    ensures { λ r. ⌜ LeaderIs count n (now (from .entry)) (now (bytes .entry)) (now (seconds .entry)) (now (start .entry)) (now (row .entry)) (now (bounds .entry)) (now (arrivals .entry)) (now (deadlines .entry)) (now (spots .entry)) (now («packet_d» .entry)) (now («epoch_d» .entry)) r ⌝ }
 {
-    let n = setup.n;
-    let packets = gifts.packets;
-    let epochs = gifts.epochs;
-    let packet_d = packets.d;
-    let epoch_d = epochs.d;
-    let bytes = setup.bytes;
-    let seconds = setup.seconds;
-    let bytes_left = left_weights(count, bytes, packet_d);
-    let seconds_left = left_weights(n - 1, seconds, epoch_d);
-    let from = setup.from;
-    let place = setup.place;
-    let points = setup.points;
-    let marks = setup.marks;
+    let left = left_weights(count, bytes, packet_d);
+    let due = gather(count, &left, row);
+    let passed = passed_by(n, seconds, epoch_d);
+    let reach = gather(count, &passed, spots);
     densest(
         count,
-        &from,
-        &bytes_left,
-        &place,
-        n,
-        &points,
-        &seconds_left,
-        &marks,
+        from,
+        start,
+        &passed,
+        arrivals,
+        deadlines,
+        bounds,
+        &due,
+        &reach,
     )
 }
 
 // The round takes the leader: what it holds is given its load over its length in lowest terms.
-fn take(count: usize, setup: Setup, gifts: Gifts, leader: Leader) -> Gifts
-    requires { ⌜ (count ≤ mostPackets) × (0 < setup .n) × (setup .n ≤ mostPoints) × (0 < leader .len) ⌝ }
-    ensures { λ r. ⌜ Taken count (setup .n) (setup .points) (setup .from) (setup .till) (setup .ends) (gifts .packets .n) (gifts .packets .d) (gifts .epochs .n) (gifts .epochs .d) leader (r .packets .n) (r .packets .d) (r .epochs .n) (r .epochs .d) ⌝ }
+fn take(
+    count: usize,
+    n: usize,
+    points: &[u64; 128],
+    from: &[u64; 128],
+    till: &[u64; 128],
+    ends: &[u64; 128],
+    packet_n: &mut [u64; 128],
+    packet_d: &mut [u64; 128],
+    epoch_n: &mut [u64; 128],
+    epoch_d: &mut [u64; 128],
+    leader: Leader,
+)
+    requires { ⌜
+        (count ≤ mostPackets) × (0 < n) × (n ≤ mostPoints) × (0 < leader .len)
+        × (length (now «packet_n») ≡ mostPoints) × (length (now «packet_d») ≡ mostPoints) × (length (now «epoch_n») ≡ mostPoints) × (length (now «epoch_d») ≡ mostPoints)
+        ⌝ }
+    ensures { λ r. ⌜ Taken count n (now (points .entry)) (now (from .entry)) (now (till .entry)) (now (ends .entry)) (now («packet_n» .entry)) (now («packet_d» .entry)) (now («epoch_n» .entry)) (now («epoch_d» .entry)) leader (now («packet_n» .exit)) (now («packet_d» .exit)) (now («epoch_n» .exit)) (now («epoch_d» .exit)) ⌝ }
 {
-    let n = setup.n;
     let rate = lowest(leader.load, leader.len);
-    let from = setup.from;
-    let till = setup.till;
-    let points = setup.points;
-    let ends = setup.ends;
-    let old_packets = gifts.packets;
-    let old_epochs = gifts.epochs;
-    let packets = give(
+    give(
         count,
         from,
         till,
-        old_packets,
+        packet_n,
+        packet_d,
         leader.start,
         leader.end,
         rate,
     );
-    let epochs = give(
+    give(
         n - 1,
         points,
         ends,
-        old_epochs,
+        epoch_n,
+        epoch_d,
         leader.start,
         leader.end,
         rate,
     );
-    Gifts { packets, epochs }
 }

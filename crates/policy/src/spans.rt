@@ -1,11 +1,12 @@
 // Packets and epochs alike: windows with a weight (bytes or seconds), of which some have a rate. What a round does to them.
 ghost use mathlib.Core.Path.{_≡_};
-ghost use Prim.Native.Nat.{ℕ, suc, _*_, _<_, _≤_};
+ghost use Prim.Native.Nat.{ℕ, suc, pred, _*_, _<_, _≤_};
 ghost use lib.ListN.{length, getD};
+ghost use Rattle.packets.specs.Limits.{lastSecond};
 ghost use Rattle.packets.specs.Records.{recordNumbers};
 ghost use Rattle.policy.specs.Figures.{mostPoints};
 ghost use Rattle.policy.specs.Points.{packetsOf};
-ghost use Rattle.policy.specs.Steps.{Spanned, Left, Shared, neighbours, leftOver, fresh, chosen};
+ghost use Rattle.policy.specs.Steps.{Spanned, Left, Passed, Shared, neighbours, leftOver, fresh, chosen};
 use crate::packet::air_size;
 use crate::packet::arrival;
 use crate::packet::deadline;
@@ -63,9 +64,9 @@ pub fn epoch_spans(epochs: usize, points: [u64; 128]) -> Spans
 }
 
 // What is left of each weight: nothing of those that have a rate.
-pub fn left_weights(count: usize, weight: [u64; 128], d: [u64; 128]) -> [u64; 128]
+pub fn left_weights(count: usize, weight: &[u64; 128], d: &[u64; 128]) -> [u64; 128]
     requires { ⌜ count ≤ mostPoints ⌝ }
-    ensures { λ r. ⌜ Left count weight d r ⌝ }
+    ensures { λ r. ⌜ Left count (now (weight .entry)) (now (d .entry)) r ⌝ }
 {
     let mut left = [0u64; 128];
     let mut i = 0;
@@ -76,6 +77,23 @@ pub fn left_weights(count: usize, weight: [u64; 128], d: [u64; 128]) -> [u64; 12
     left
 }
 
+// The seconds left of the epochs before each of n points.
+pub fn passed_by(n: usize, seconds: &[u64; 128], d: &[u64; 128]) -> [u64; 128]
+    requires { ⌜ (n ≤ mostPoints) × ((k : ℕ) → k < pred n → getD (now seconds) k 0 ≤ lastSecond) ⌝ }
+    ensures { λ r. ⌜ Passed n (now (seconds .entry)) (now (d .entry)) r ⌝ }
+{
+    let mut passed = [0u64; 128];
+    let mut so_far: u64 = 0;
+    let mut k: usize = 0;
+    while k + 1 < n {
+        so_far += left_of(d[k], seconds[k]);
+        k += 1;
+        passed[k] = so_far;
+    }
+    passed
+}
+
+// The weight where there is no rate yet, else nothing.
 fn left_of(d: u64, weight: u64) -> u64
     ensures { λ r. ⌜ r ≡ leftOver d weight ⌝ }
 {
@@ -88,18 +106,17 @@ fn left_of(d: u64, weight: u64) -> u64
 // Those that have no rate yet and lie inside [s, e) are given the rate.
 pub fn give(
     count: usize,
-    from: [u64; 128],
-    till: [u64; 128],
-    shares: Shares,
+    from: &[u64; 128],
+    till: &[u64; 128],
+    n: &mut [u64; 128],
+    d: &mut [u64; 128],
     s: u64,
     e: u64,
     rate: Rate,
-) -> Shares
-    requires { ⌜ count ≤ mostPoints ⌝ }
-    ensures { λ r. ⌜ Shared count from till (shares .n) (shares .d) s e (rate .n) (rate .d) (r .n) (r .d) ⌝ }
+)
+    requires { ⌜ (count ≤ mostPoints) × (length (now n) ≡ mostPoints) × (length (now d) ≡ mostPoints) ⌝ }
+    ensures { λ r. ⌜ Shared count (now (from .entry)) (now (till .entry)) (now (n .entry)) (now (d .entry)) s e (rate .n) (rate .d) (now (n .exit)) (now (d .exit)) ⌝ }
 {
-    let mut n = shares.n;
-    let mut d = shares.d;
     let rate_n = rate.n;
     let rate_d = rate.d;
     let mut i = 0;
@@ -109,7 +126,6 @@ pub fn give(
         d[i] = choice(gets, rate_d, d[i]);
         i += 1;
     }
-    Shares { n, d }
 }
 
 // No rate yet, and inside [s, e).

@@ -1,35 +1,43 @@
 -- `policy::densest::densest` meets its contract. The invariant: the leader is that of the first i arrivals, and its cross products fit. Assumes nothing.
-use lib.ListN.{getD}
 use native.Mathlib.Omega.{arith}
 use Prim.Native.Nat.{_-_, _≤_}
 use mathlib.Core.Path.{_≡_, refl, ap, _∙_}
 use Rattle.policy.specs.Steps.{led, Small}
-use Rattle.policy.proofs.Sweeping.{led-next, tally-most}
+use Rattle.policy.proofs.Sweeping.{led-next}
 use borrow.Author.Needs.{needs}
 use Rattle.policy.proofs.densest.densest.Statement.{statement}
 use Rattle.policy.proofs.densest.densest.Tie as tie
 
 abbrev Inv-loop : tie.InvT-loop
-Inv-loop count from bytes place n points room marks leader₀ i₀ leader i = (i ≤ count) × (leader ≡ led count from bytes place n points room marks i) × Small leader
+Inv-loop count from start passed arrivals deadlines bounds due reach leader₀ i₀ leader i = (i ≤ count) × (leader ≡ led count from start passed arrivals deadlines bounds due reach i) × Small leader
 
 abbrev μ-loop : tie.MeasureT-loop
-μ-loop count from bytes place n points room marks leader₀ i₀ leader i = count - i
+μ-loop count from start passed arrivals deadlines bounds due reach leader₀ i₀ leader i = count - i
 
 loop-holds : tie.Need-loop-holds Inv-loop μ-loop
 unfolding led
 loop-holds c = (omega arith, refl, record { load = omega arith; len = omega arith })
 
-mul-s : tie.Need-mul-s Inv-loop μ-loop
-mul-s c = search needs
+mul-k : tie.Need-mul-k Inv-loop μ-loop
+mul-k c = omega (arith, c .before .before .pre .few)
 
-element-copy-out-s : tie.Need-element-copy-out-s Inv-loop μ-loop
-element-copy-out-s c = search needs
+element-copy-out-k : tie.Need-element-copy-out-k Inv-loop μ-loop
+element-copy-out-k c = omega (arith, c .before .before .pre .few)
 
-tally-requires : tie.Need-tally-requires Inv-loop μ-loop
-tally-requires c κs = record { few = c .before .before .before .pre .few; place-in = c .before .before .before .pre .place-in; weights-most = c .before .before .before .pre .bytes-most }
+mul-sweep : tie.Need-mul-sweep Inv-loop μ-loop
+mul-sweep c = omega (arith, c .before .before .before .pre .few)
+
+element-copy-out-sweep : tie.Need-element-copy-out-sweep Inv-loop μ-loop
+element-copy-out-sweep c = omega (arith, c .before .before .before .pre .few)
+
+mul-sweep-2 : tie.Need-mul-sweep-2 Inv-loop μ-loop
+mul-sweep-2 c = omega (arith, c .before .before .before .before .pre .start-in _ (c .before .before .loop-test .taken))
+
+element-copy-out-sweep-2 : tie.Need-element-copy-out-sweep-2 Inv-loop μ-loop
+element-copy-out-sweep-2 c = omega (arith, c .before .before .before .before .pre .start-in _ (c .before .before .loop-test .taken))
 
 sweep-requires : tie.Need-sweep-requires Inv-loop μ-loop
-sweep-requires c κs = record { some = c .before .before .before .before .before .pre .some; most = c .before .before .before .before .before .pre .most; room-most = c .before .before .before .before .before .pre .seconds-most; due-most = tally-most (c .before .before .before .before .before .args .from .now) (c .before .before .before .before .before .args .bytes .now) (c .before .before .before .before .before .args .place .now) (getD (c .before .before .before .before .before .args .from .now) (c .before .before .before .before .loop .i) 0) (c .before .tally .result) (c .before .before .before .before .before .args .count) (c .before .tally .ensures) (c .before .before .before .before .before .pre .few) (c .before .before .before .before .before .pre .bytes-most); best-small = c .before .before .before .before .loop .inv .2 }
+sweep-requires c κs = record { few = c .before .before .before .before .before .pre .few; due-most = c .before .before .before .before .before .pre .due-most; reach-most = c .before .before .before .before .before .pre .reach-most; best-small = c .before .before .before .before .loop .inv .2 }
 
 add-i : tie.Need-add-i Inv-loop μ-loop
 add-i c = search needs
@@ -38,10 +46,10 @@ loop-less : tie.Need-loop-less Inv-loop μ-loop
 loop-less c = search needs
 
 loop-again : tie.Need-loop-again Inv-loop μ-loop
-loop-again c = (omega arith, led-next _ _ _ _ _ _ _ _ _ _ _ _ (c .before .before .before .before .before .before .pre .most) (c .before .before .tally .ensures) (c .before .before .before .before .before .loop .inv .1) (c .sweep .ensures .0), c .sweep .ensures .1)
+loop-again c = (omega arith, led-next _ _ _ _ _ _ _ _ _ _ _ _ (c .before .before .before .before .before .loop .inv .1) (c .sweep .ensures .0), c .sweep .ensures .1)
 
 returns : tie.Need-returns Inv-loop μ-loop
-returns c = c .before .loop .inv .1 ∙ ap (led _ _ _ _ _ _ _ _) (omega arith)
+returns c = c .before .loop .inv .1 ∙ ap (led _ _ _ _ _ _ _ _ _) (omega arith)
 
 pub densest-spec : {M : Type 1} → statement M
 densest-spec =
@@ -50,9 +58,12 @@ densest-spec =
     Inv-loop
     μ-loop
     loop-holds
-    mul-s
-    element-copy-out-s
-    tally-requires
+    mul-k
+    element-copy-out-k
+    mul-sweep
+    element-copy-out-sweep
+    mul-sweep-2
+    element-copy-out-sweep-2
     sweep-requires
     add-i
     loop-less

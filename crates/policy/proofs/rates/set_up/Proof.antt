@@ -1,13 +1,12 @@
--- `policy::rates::set_up` meets its contract: each deadline is a point, so that its place is within the arrays. Assumes nothing.
-use mathlib.Core.Path.{_≡_}
-use Prim.Native.Nat.{suc}
-use lib.ListN.{getD, replicate, getD-replicate}
+-- `policy::rates::set_up` meets its contract: each arrival and each deadline is a point, so that their places are within the arrays. Assumes nothing.
+use Prim.Native.Nat.{ℕ, suc, _<_}
+use lib.ListN.{getD}
 use native.Mathlib.Nat.{le-of-lt}
-use Rattle.policy.specs.Points.{packetsOf}
-use Rattle.policy.proofs.Turning.{epochs-set}
-use Prim.Native.Nat.{ℕ, _≤_, _<_}
 use native.Mathlib.Omega.{arith}
-use Rattle.policy.proofs.Turning.{points-some, points-most, point-rises, place-found}
+use Rattle.packets.specs.Records.{deadlineOf}
+use Rattle.policy.specs.Points.{packetsOf}
+use Rattle.policy.proofs.EventPoints.{points-deadline}
+use Rattle.policy.proofs.Turning.{epochs-set, points-some, points-most, point-rises, place-found}
 use borrow.Author.Needs.{needs}
 use Rattle.policy.proofs.rates.set_up.Statement.{statement}
 use Rattle.policy.proofs.rates.set_up.Tie as tie
@@ -27,25 +26,24 @@ epoch-spans-requires c κs = (omega (arith, points-most _ _ (c .before .before .
 places-requires : tie.Need-places-requires
 places-requires c κs = (omega (arith, c .before .before .before .before .before .before .before .before .before .before .before .before .pre .few), omega (arith, points-most _ _ (c .before .before .before .before .before .before .before .before .before .before .before .before .pre), c .before .before .before .before .before .before .before .before .before .before .event-points .ensures .1))
 
--- a deadline's place is within the array
-ones : (i : ℕ) → i < 128 → getD (replicate 128 1) i 0 ≤ 65535
-ones i h = let x : _≡_ {A = ℕ} (getD (replicate 128 1) i 0) 1 = getD-replicate 128 i 1 0 h in omega arith
+places-requires-2 : tie.Need-places-requires-2
+places-requires-2 c κs = (omega (arith, c .before .before .before .before .before .before .before .before .before .before .before .before .before .before .before .pre .few), omega (arith, points-most _ _ (c .before .before .before .before .before .before .before .before .before .before .before .before .before .before .before .pre), c .before .before .before .before .before .before .before .before .before .before .before .before .before .event-points .ensures .1))
 
-placed : (c : tie.After-place) (i : ℕ) → i < c .before .before .before .before .before .before .before .before .before .before .before .before .before .before .before .before .args .count → getD (c .before .before .before .places .result) i 0 < 128
+by-deadline-requires : tie.Need-by-deadline-requires
 unfolding packetsOf
-placed c i h =
-    omega (
-      arith,
-      place-found _ _ (c .before .before .before .before .before .before .before .before .before .before .before .before .before .before .before .before .pre) _ _ (c .before .before .before .before .before .before .before .before .before .before .before .before .before .before .event-points .ensures .0) (c .before .before .before .before .before .before .before .before .before .before .before .before .before .before .event-points .ensures .1) _ _ (c .before .before .before .before .before .before .before .before .before .before .before .before .packet-spans .ensures .till-is) (c .before .before .before .places .ensures) i h .0,
-      points-most _ _ (c .before .before .before .before .before .before .before .before .before .before .before .before .before .before .before .before .pre),
-      c .before .before .before .before .before .before .before .before .before .before .before .before .before .before .event-points .ensures .1,
-    )
+by-deadline-requires c κs = (c .before .before .before .before .before .before .before .before .before .before .before .before .before .before .before .before .before .pre .few, omega (arith, points-most _ _ (c .before .before .before .before .before .before .before .before .before .before .before .before .before .before .before .before .before .pre), c .before .before .before .before .before .before .before .before .before .before .before .before .before .before .before .event-points .ensures .1), λ i h. place-found _ _ (c .before .before .before .before .before .before .before .before .before .before .before .before .before .before .before .before .before .pre) _ _ (c .before .before .before .before .before .before .before .before .before .before .before .before .before .before .before .event-points .ensures .0) (c .before .before .before .before .before .before .before .before .before .before .before .before .before .before .before .event-points .ensures .1) _ _ (deadlineOf _) (c .before .before .before .before .before .before .before .before .before .before .before .before .before .packet-spans .ensures .till-is) (points-deadline _ _) (c .before .places2 .ensures) i h .0)
 
-tally-requires : tie.Need-tally-requires
-tally-requires c κs = record { few = c .before .before .before .before .before .before .before .before .before .before .before .before .before .before .before .before .pre .few; place-in = placed c; weights-most = λ i h. ones i (omega (arith, c .before .before .before .before .before .before .before .before .before .before .before .before .before .before .before .before .pre .few, h)) }
+gather-requires : tie.Need-gather-requires
+gather-requires c κs = (omega (arith, c .before .before .before .before .before .before .before .before .before .before .before .before .before .before .before .before .before .before .before .before .before .before .pre .few), λ j h. omega (arith, c .before .before .before .before .before .before .before .before .before .before .before .before .before .before .before .before .before .before .before .before .before .before .pre .few, c .before .before .before .before .by-deadline .ensures .within j h))
+
+gather-requires-2 : tie.Need-gather-requires-2
+gather-requires-2 c κs = (omega (arith, c .before .before .before .before .before .before .before .before .before .before .before .before .before .before .before .before .before .before .before .before .before .before .before .before .before .pre .few), λ j h. omega (arith, c .before .before .before .before .before .before .before .before .before .before .before .before .before .before .before .before .before .before .before .before .before .before .before .before .before .pre .few, c .before .before .before .before .before .before .before .by-deadline .ensures .within j h))
+
+gather-requires-3 : tie.Need-gather-requires-3
+gather-requires-3 c κs = (omega (arith, c .before .before .before .before .before .before .before .before .before .before .before .before .before .before .before .before .before .before .before .before .before .before .before .before .before .before .before .before .pre .few), λ j h. omega (arith, c .before .before .before .before .before .before .before .before .before .before .before .before .before .before .before .before .before .before .before .before .before .before .before .before .before .before .before .before .pre .few, c .before .before .before .before .before .before .before .before .before .before .by-deadline .ensures .within j h))
 
 returns : tie.Need-returns
-returns c = record { points-are = c .before .before .before .before .before .before .before .before .before .before .before .before .before .before .before .event-points .ensures .0; n-is = c .before .before .before .before .before .before .before .before .before .before .before .before .before .before .before .event-points .ensures .1; packets-are = c .before .before .before .before .before .before .before .before .before .before .before .before .before .packet-spans .ensures; epochs-are = epochs-set _ _ _ _ _ (c .before .before .before .before .before .before .before .before .before .epoch-spans .ensures); places-are = c .before .before .before .before .places .ensures; marks-are = c .tally .ensures }
+returns c = record { place = _; points-are = c .before .before .before .before .before .before .before .before .before .before .before .before .before .before .before .before .before .before .before .before .before .before .before .before .before .before .before .event-points .ensures .0; n-is = c .before .before .before .before .before .before .before .before .before .before .before .before .before .before .before .before .before .before .before .before .before .before .before .before .before .before .before .event-points .ensures .1; packets-are = c .before .before .before .before .before .before .before .before .before .before .before .before .before .before .before .before .before .before .before .before .before .before .before .before .before .packet-spans .ensures; epochs-are = epochs-set _ _ _ _ _ (c .before .before .before .before .before .before .before .before .before .before .before .before .before .before .before .before .before .before .before .before .before .epoch-spans .ensures); starts-are = c .before .before .before .before .before .before .before .before .before .before .before .before .before .before .before .before .places .ensures; places-are = c .before .before .before .before .before .before .before .before .before .before .before .before .before .places2 .ensures; row-is = c .before .before .before .before .before .before .before .before .before .before .before .by-deadline .ensures; arrivals-are = c .before .before .before .before .before .before .gather .ensures; deadlines-are = c .before .before .before .gather2 .ensures; spots-are = c .gather3 .ensures }
 
 pub set-up-spec : {M : Type 1} → statement M
 set-up-spec =
@@ -56,5 +54,9 @@ set-up-spec =
     sub-epoch-spans
     epoch-spans-requires
     places-requires
-    tally-requires
+    places-requires-2
+    by-deadline-requires
+    gather-requires
+    gather-requires-2
+    gather-requires-3
     returns)

@@ -21,14 +21,14 @@ loop-holds c = (omega arith, filled-none _ _ refl)
 mul-left-of : tie.Need-mul-left-of Inv-loop μ-loop
 mul-left-of c = search needs
 
-array-read-left-of : tie.Need-array-read-left-of Inv-loop μ-loop
-array-read-left-of c = search needs
+element-copy-out-left-of : tie.Need-element-copy-out-left-of Inv-loop μ-loop
+element-copy-out-left-of c = search needs
 
 mul-left-of-2 : tie.Need-mul-left-of-2 Inv-loop μ-loop
 mul-left-of-2 c = search needs
 
-array-read-left-of-2 : tie.Need-array-read-left-of-2 Inv-loop μ-loop
-array-read-left-of-2 c = search needs
+element-copy-out-left-of-2 : tie.Need-element-copy-out-left-of-2 Inv-loop μ-loop
+element-copy-out-left-of-2 c = search needs
 
 left-of-requires : tie.Need-left-of-requires Inv-loop μ-loop
 left-of-requires c κs = search needs
@@ -46,7 +46,7 @@ loop-less : tie.Need-loop-less Inv-loop μ-loop
 loop-less c = search needs
 
 loop-again : tie.Need-loop-again Inv-loop μ-loop
-loop-again c = (omega arith, filled-more _ _ _ _ (omega arith) (c .before .before .loop .inv .1) (c .left-of .ensures))
+loop-again c = (omega arith, filled-more _ _ _ _ (omega arith) (c .before .before .before .before .loop .inv .1) (c .left-of .ensures))
 
 returns : tie.Need-returns Inv-loop μ-loop
 returns c = record { is = λ i h. c .before .loop .inv .1 .below i (omega arith) }
@@ -59,9 +59,9 @@ left-weights-spec =
     μ-loop
     loop-holds
     mul-left-of
-    array-read-left-of
+    element-copy-out-left-of
     mul-left-of-2
-    array-read-left-of-2
+    element-copy-out-left-of-2
     left-of-requires
     mul-left
     array-write-left
