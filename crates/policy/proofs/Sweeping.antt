@@ -1,5 +1,5 @@
 -- The turns of the sweep, over plain variables. Assumes nothing.
-use Prim.Native.Nat.{ℕ, suc, _+_, _-_, _*_, _≤_}
+use Prim.Native.Nat.{ℕ, suc, _+_, _-_, _*_, _/_, _^_, _<_, _≤_}
 use mathlib.Core.Path.{_≡_, refl, ap, ap₂, _∙_}
 use mathlib.Core.Bool.{true, false}
 use mathlib.Core.List.{List}
@@ -7,9 +7,10 @@ use native.Mathlib.Omega.{arith}
 use native.Mathlib.Numerals.{add-one}
 use lib.ListN.{getD}
 use lib.Dec.{leb}
-use borrow.Author.Tests.{eq-eqb, ne-eqb}
+use native.Mathlib.Decide.{decLt}
+use borrow.Author.Tests.{eq-eqb, ne-eqb, lt-leb, le-leb}
 use Rattle.policy.specs.declared.densest.Leader.{Leader}
-use Rattle.policy.specs.Windows.{sum, choose}
+use Rattle.policy.specs.Windows.{sum, choose, onlyIf}
 use Rattle.policy.specs.Steps.{countedFrom, dueTo, swept, considered, led, Small, leaderAhead}
 use Rattle.policy.proofs.Left.{onlyIf-most}
 use Rattle.policy.proofs.Order.{Figures}
@@ -31,6 +32,24 @@ pub swept-first : (arrivals deadlines bounds due reach : List ℕ) (s base : ℕ
     → SweptSoFar arrivals deadlines bounds due reach s base best best 0 0
 swept-first arrivals deadlines bounds due reach s base best h =
     record { leads = unfold swept in refl; small = h; load-is = unfold dueTo sum in refl; load-most = omega arith }
+
+-- what is counted without a branch: above 2^32 stands 1 from s on, and 0 before
+pub counted-so : (s from weight : ℕ) → s < 2 ^ 32 → from < 2 ^ 32 → (from + 2 ^ 32 - s) / 2 ^ 32 * weight ≡ countedFrom s from weight
+unfolding countedFrom
+counted-so s from weight h g = go (decLt from s)
+  where
+    go : Dec (from < s) → (from + 2 ^ 32 - s) / 2 ^ 32 * weight ≡ onlyIf (leb s from) weight
+    go (yes p) =
+        let q : (from + 2 ^ 32 - s) / 2 ^ 32 ≡ 0 = omega (arith, h, g, p) in
+        ap (λ (k : ℕ). k * weight) q ∙ rw (lt-leb s from p) (unfold onlyIf in omega arith)
+    go (no p) =
+        let q : (from + 2 ^ 32 - s) / 2 ^ 32 ≡ 1 = omega (arith, h, g, p) in
+        ap (λ (k : ℕ). k * weight) q ∙ rw (le-leb s from (omega (arith, p))) (unfold onlyIf in omega arith)
+
+-- it is the weight at most
+pub counted-most : (s from weight : ℕ) → s < 2 ^ 32 → from < 2 ^ 32 → (from + 2 ^ 32 - s) / 2 ^ 32 * weight ≤ weight
+unfolding countedFrom
+counted-most s from weight h g = rw (counted-so s from weight h g) (onlyIf-most (leb s from) weight)
 
 -- a load with one more in it is within the bytes of so many packets
 pub load-fits : (arrivals deadlines bounds due reach : List ℕ) (s base : ℕ) (best leader : Leader) (load j more : ℕ)

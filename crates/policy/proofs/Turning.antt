@@ -292,13 +292,19 @@ module _ (count : ℕ) (records : List ℕ) (accepted : Accepted count records) 
             in-row : getD place (getD row j 0) 0 < n
             in-row = placed (getD row j 0) (setup .row-is .within j h) .0
 
+    -- arrivals are of this day
+    early : (i : ℕ) → i < count → getD from i 0 ≤ 86400
+    early i h = omega (arith, from-is i h, accepted .sound i h .early, accepted .sound i h .today)
+
     -- the figures of a round are in range
-    pub ready : Ready count n bytes seconds start row spots
+    pub ready : Ready count n from bytes seconds start row arrivals spots
     ready =
         record {
           few = accepted .few;
           some = n-some;
           most = n-most;
+          from-most = early;
+          arrivals-most = λ j h. rw (setup .arrivals-are .is j h) (early (getD row j 0) (setup .row-is .within j h));
           bytes-most = λ i h. rw (bytes-are i h) (air-most (sizeOf records i) (accepted .sound i h .small));
           seconds-most = λ k h.
               omega (arith, seconds-are k h, at (suc k) (omega arith), points-today count records accepted (suc k) (omega (arith, setup .n-is)));

@@ -120,10 +120,12 @@ pub record Small (x : Leader) : Type 0 where
   pub len : x .len < 2 ^ 32
 
 -- figures within which a round's sums fit
-pub record Ready (count n : ℕ) (bytes seconds start row spots : List ℕ) : Type 0 where
+pub record Ready (count n : ℕ) (from bytes seconds start row arrivals spots : List ℕ) : Type 0 where
   pub few : count ≤ mostPackets
   pub some : 0 < n
   pub most : n ≤ mostPoints
+  pub from-most : (i : ℕ) → i < count → getD from i 0 ≤ lastSecond
+  pub arrivals-most : (j : ℕ) → j < count → getD arrivals j 0 ≤ lastSecond
   pub bytes-most : (i : ℕ) → i < count → getD bytes i 0 ≤ largestAir
   pub seconds-most : (k : ℕ) → k < pred n → getD seconds k 0 ≤ lastSecond
   pub start-in : (i : ℕ) → i < count → getD start i 0 < n
@@ -131,14 +133,18 @@ pub record Ready (count n : ℕ) (bytes seconds start row spots : List ℕ) : Ty
   pub place-in : (j : ℕ) → j < count → getD spots j 0 < n
 
 -- figures within which a sweep fits
-pub record SweepFits (count : ℕ) (due reach : List ℕ) (best : Leader) : Type 0 where
+pub record SweepFits (count : ℕ) (arrivals due reach : List ℕ) (s : ℕ) (best : Leader) : Type 0 where
   pub few : count ≤ mostPackets
+  pub s-most : s ≤ lastSecond
+  pub arrivals-most : (j : ℕ) → j < count → getD arrivals j 0 ≤ lastSecond
   pub due-most : (j : ℕ) → j < count → getD due j 0 ≤ largestAir
   pub reach-most : (j : ℕ) → j < count → getD reach j 0 < 2 ^ 32
   pub best-small : Small best
 
 -- figures within which all sweeps fit
-pub record SweepsFit (count : ℕ) (start passed due reach : List ℕ) : Type 0 where
+pub record SweepsFit (count : ℕ) (from start arrivals due reach : List ℕ) : Type 0 where
+  pub from-most : (i : ℕ) → i < count → getD from i 0 ≤ lastSecond
+  pub arrivals-most : (j : ℕ) → j < count → getD arrivals j 0 ≤ lastSecond
   pub start-in : (i : ℕ) → i < count → getD start i 0 < mostPoints
   pub few : count ≤ mostPackets
   pub due-most : (j : ℕ) → j < count → getD due j 0 ≤ largestAir

@@ -198,7 +198,7 @@ fn leader_of(
     packet_d: &[u64; 128],
     epoch_d: &[u64; 128],
 ) -> Leader
-    requires { ⌜ Ready count n (now bytes) (now seconds) (now start) (now row) (now spots) ⌝ }
+    requires { ⌜ Ready count n (now from) (now bytes) (now seconds) (now start) (now row) (now arrivals) (now spots) ⌝ }
     ensures { λ r. ⌜ LeaderIs count n (now (from .entry)) (now (bytes .entry)) (now (seconds .entry)) (now (start .entry)) (now (row .entry)) (now (bounds .entry)) (now (arrivals .entry)) (now (deadlines .entry)) (now (spots .entry)) (now («packet_d» .entry)) (now («epoch_d» .entry)) r ⌝ }
 {
     let left = left_weights(count, bytes, packet_d);

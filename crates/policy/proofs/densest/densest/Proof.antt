@@ -37,7 +37,7 @@ element-copy-out-sweep-2 : tie.Need-element-copy-out-sweep-2 Inv-loop μ-loop
 element-copy-out-sweep-2 c = omega (arith, c .before .before .before .before .pre .start-in _ (c .before .before .loop-test .taken))
 
 sweep-requires : tie.Need-sweep-requires Inv-loop μ-loop
-sweep-requires c κs = record { few = c .before .before .before .before .before .pre .few; due-most = c .before .before .before .before .before .pre .due-most; reach-most = c .before .before .before .before .before .pre .reach-most; best-small = c .before .before .before .before .loop .inv .2 }
+sweep-requires c κs = record { s-most = c .before .before .before .before .before .pre .from-most _ (c .before .before .before .loop-test .taken); arrivals-most = c .before .before .before .before .before .pre .arrivals-most; few = c .before .before .before .before .before .pre .few; due-most = c .before .before .before .before .before .pre .due-most; reach-most = c .before .before .before .before .before .pre .reach-most; best-small = c .before .before .before .before .loop .inv .2 }
 
 add-i : tie.Need-add-i Inv-loop μ-loop
 add-i c = search needs

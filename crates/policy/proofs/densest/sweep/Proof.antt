@@ -31,7 +31,7 @@ element-copy-out-counted-from-2 : tie.Need-element-copy-out-counted-from-2 Inv-l
 element-copy-out-counted-from-2 c = search needs
 
 counted-from-requires : tie.Need-counted-from-requires Inv-loop μ-loop
-counted-from-requires c κs = search needs
+counted-from-requires c κs = (omega (arith, c .before .before .before .before .pre .s-most), omega (arith, c .before .before .before .before .pre .arrivals-most _ (c .before .before .loop-test .taken)), omega (arith, c .before .before .before .before .pre .due-most _ (c .before .before .loop-test .taken)))
 
 add-load : tie.Need-add-load Inv-loop μ-loop
 add-load c = omega (arith, c .before .before .before .before .before .pre .few, load-fits _ _ _ _ _ _ _ _ _ _ _ _ (c .before .before .before .before .loop .inv .1) (c .counted-from .ensures) (c .before .before .before .before .before .pre .due-most _ (c .before .before .before .loop-test .taken)))
