@@ -1,64 +1,141 @@
-// Downcrook for C and Rust: the whole call and the plan reader as functions of a static library. An answer is one number, so that nothing but the frame or
-// the entries is lent; include/downcrook.h says how to take it apart, and specs/Packed.antt says what it is.
+// Downcrook for C and Rust: every public operation as a function of a static library. An answer is a struct of plain numbers (src/shown.rt), so nothing is lent
+// but what the operation itself fills. include/downcrook.h declares the functions; specs/Shown.antt says which numbers an answer is.
+pub mod shown;
+
 ghost use mathlib.Core.Path.{_≡_};
 ghost use lib.ListN.{length};
-ghost use Rattle.packets.specs.Outcome.{refusalOf};
-ghost use Rattle.planner.specs.Whole.{planOutcome, frameAfter};
-ghost use Rattle.plan.specs.Frame.{planOn, readOutcome, entriesAfter};
-ghost use Rattle.downcrook_c.specs.Packed.{packed, packedParts};
-use packets::refusal;
-use packets::refusal::Refusal;
+ghost use Rattle.packets.specs.Records.{memoryTests};
+ghost use Rattle.packets.specs.List as lists;
+ghost use Rattle.policy.specs.Answer.{ratesOutcome, ratesAfter};
+ghost use Rattle.timetable.specs.Answer as timetabled;
+ghost use Rattle.plan.specs.Frame as plans;
+ghost use Rattle.planner.specs.Whole as whole;
+ghost use Rattle.downcrook_c.specs.Shown.{
+  shown,
+  judgedFields,
+  listedFields,
+  writtenFields,
+  ratedFields,
+  plannedFields,
+  readFields,
+};
+use crate::shown::Judged;
+use crate::shown::Listed;
+use crate::shown::Planned;
+use crate::shown::Rated;
+use crate::shown::Read;
+use crate::shown::Written;
+use packets::judge;
+use packets::list;
 use plan::frame;
-use plan::frame::ReadAnswer;
-use planner::PlanAnswer;
 
-// Plans the list at the front of the bytes into the lent frame, from byte 8 on. A refusal changes nothing.
+// Plans the list at the front of the bytes into the lent frame, from byte 8 on. The eight head bytes and the bytes behind the plan stay; a refusal changes nothing.
 #[no_mangle]
-pub extern "C" fn downcrook_plan(list: &[u8], frame: &mut [u8]) -> u64
+pub extern "C" fn downcrook_plan_list(list: &[u8], frame: &mut [u8]) -> Planned
     ensures { λ r. ⌜
-        (r ≡ packed (planOutcome (now (list .entry)) (length (now (frame .entry)))))
-        × (now (frame .exit) ≡ frameAfter (now (list .entry)) (now (frame .entry)))
+        (plannedFields r ≡ shown 3 (whole.planOutcome (now (list .entry)) (length (now (frame .entry)))))
+        × (now (frame .exit) ≡ whole.frameAfter (now (list .entry)) (now (frame .entry)))
         ⌝ }
 {
-    let answer = planner::plan_list(list, frame);
-    match answer {
-        PlanAnswer::Planned {
-            rounds,
-            entries,
-            cost,
-        } => pack(rounds as u64, entries as u64, cost),
-        PlanAnswer::Refused(refusal) => pack_refusal(refusal),
+    shown::show_plan(planner::plan_list(list, frame))
+}
+
+// Judges packets in memory, of which count are called for.
+#[no_mangle]
+pub extern "C" fn downcrook_judge_packets(count: usize, records: &[u64]) -> Judged
+    ensures { λ r. ⌜ judgedFields r ≡ shown 0 (memoryTests count (now (records .entry))) ⌝ }
+{
+    shown::show_verdict(judge::judge_packets(count, records))
+}
+
+// What reading the list at the front of the bytes into room for so many numbers comes to.
+#[no_mangle]
+pub extern "C" fn downcrook_judge_list(bytes: &[u8], room: usize) -> Listed
+    ensures { λ r. ⌜ listedFields r ≡ shown 2 (lists.readOutcome (now (bytes .entry)) room) ⌝ }
+{
+    shown::show_list(list::judge_list(bytes, room))
+}
+
+// Reads the list at the front of the bytes into the lent records, three numbers a packet. What it takes (bytes) is what the part handed back leaves of the input.
+// A refusal changes nothing.
+#[no_mangle]
+pub extern "C" fn downcrook_read_list(bytes: &[u8], records: &mut [u64]) -> Listed
+    ensures { λ r. ⌜
+        (listedFields r ≡ shown 2 (lists.readOutcome (now (bytes .entry)) (length (now (records .entry)))))
+        × (now (records .exit) ≡ lists.recordsAfter (now (bytes .entry)) (now (records .entry)))
+        ⌝ }
+{
+    let judged = shown::show_list(list::judge_list(bytes, records.len()));
+    let rest = list::read_list(bytes, records);
+    Listed {
+        refusal: judged.refusal,
+        place: judged.place,
+        packets: judged.packets,
+        bytes: (bytes.len() - rest.len()) as u64,
     }
 }
 
-// Reads the plan in a frame into lent entries, six numbers an entry. A refusal changes nothing.
+// Writes packets in memory as a list to the front of the lent bytes. The bytes behind it stay; a refusal changes nothing.
 #[no_mangle]
-pub extern "C" fn downcrook_read_plan(frame: &[u8], entries: &mut [u64]) -> u64
+pub extern "C" fn downcrook_write_list(count: usize, records: &[u64], bytes: &mut [u8]) -> Written
     ensures { λ r. ⌜
-        (r ≡ packed (readOutcome (planOn (now (frame .entry))) (length (now (entries .entry)))))
-        × (now (entries .exit) ≡ entriesAfter (planOn (now (frame .entry))) (now (entries .entry)))
+        (writtenFields r ≡ shown 1 (lists.writeOutcome count (now (records .entry)) (length (now (bytes .entry)))))
+        × (now (bytes .exit) ≡ lists.bytesAfter count (now (records .entry)) (now (bytes .entry)))
         ⌝ }
 {
-    let answer = frame::read_plan(frame, entries);
-    match answer {
-        ReadAnswer::Entries { count, cost } => pack(0, count as u64, cost),
-        ReadAnswer::Refused(refusal) => pack_refusal(refusal),
-    }
+    shown::show_written(list::write_list(count, records, bytes))
 }
 
-// Rounds, entries and cost in one number.
-fn pack(rounds: u64, entries: u64, cost: u64) -> u64
-    ensures { λ r. ⌜ r ≡ packedParts rounds entries cost ⌝ }
+// The rate of every epoch: start (seconds), N and D (N/D bytes per second), three numbers an epoch. The numbers past the last epoch stay; a refusal changes nothing.
+#[no_mangle]
+pub extern "C" fn downcrook_epoch_rates(count: usize, records: &[u64], rates: &mut [u64]) -> Rated
+    ensures { λ r. ⌜
+        (ratedFields r ≡ shown 2 (ratesOutcome count (now (records .entry)) (length (now (rates .entry)))))
+        × (now (rates .exit) ≡ ratesAfter count (now (records .entry)) (now (rates .entry)))
+        ⌝ }
 {
-    rounds % 128 * 4_503_599_627_370_496
-        + entries % 256 * 17_592_186_044_416
-        + cost % 17_592_186_044_416
+    shown::show_rates(policy::epoch_rates(count, records, rates))
 }
 
-// A refusal's number and place in one number.
-fn pack_refusal(refusal: Refusal) -> u64
-    ensures { λ r. ⌜ r ≡ packed (refusalOf refusal) ⌝ }
+// Both timetables of packets in memory, seven numbers an entry. The numbers past the last entry stay; a refusal changes nothing.
+#[no_mangle]
+pub extern "C" fn downcrook_timetables(
+    count: usize,
+    records: &[u64],
+    entries: &mut [u64],
+) -> Planned
+    ensures { λ r. ⌜
+        (plannedFields r ≡ shown 3 (timetabled.timetablesOutcome count (now (records .entry)) (length (now (entries .entry)))))
+        × (now (entries .exit) ≡ timetabled.entriesAfter count (now (records .entry)) (now (entries .entry)))
+        ⌝ }
 {
-    let place = refusal::place(refusal) as u64;
-    9_223_372_036_854_775_808 + place % 256 * 256 + refusal::number(refusal) % 256
+    shown::show_timetables(timetable::timetables(count, records, entries))
+}
+
+// Reads the plan in a frame, from byte 8 on, into lent entries, six numbers an entry. The numbers past the last entry stay; a refusal changes nothing.
+#[no_mangle]
+pub extern "C" fn downcrook_read_plan(frame: &[u8], entries: &mut [u64]) -> Read
+    ensures { λ r. ⌜
+        (readFields r ≡ shown 2 (plans.readOutcome (plans.planOn (now (frame .entry))) (length (now (entries .entry)))))
+        × (now (entries .exit) ≡ plans.entriesAfter (plans.planOn (now (frame .entry))) (now (entries .entry)))
+        ⌝ }
+{
+    shown::show_entries(frame::read_plan(frame, entries))
+}
+
+// Writes entries, six numbers each, and cost as a plan into the lent frame, from byte 8 on. The eight head bytes and the bytes behind the plan stay; a refusal
+// changes nothing.
+#[no_mangle]
+pub extern "C" fn downcrook_write_plan(
+    count: usize,
+    entries: &[u64],
+    cost: u64,
+    frame: &mut [u8],
+) -> Written
+    ensures { λ r. ⌜
+        (writtenFields r ≡ shown 1 (plans.writeOutcome count (now (entries .entry)) cost (length (now (frame .entry)))))
+        × (now (frame .exit) ≡ plans.frameAfter count (now (entries .entry)) cost (now (frame .entry)))
+        ⌝ }
+{
+    shown::show_frame(frame::write_plan(count, entries, cost, frame))
 }

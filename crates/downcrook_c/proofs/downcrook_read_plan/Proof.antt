@@ -1,7 +1,6 @@
--- `downcrook_c::downcrook_read_plan` meets its contract: the answer's values are packed as they are. Assumes nothing.
-use mathlib.Core.Path.{sym, ap, _∙_}
-use Rattle.plan.specs.Frame.{readAnswerOf}
-use Rattle.downcrook_c.specs.Packed.{packed, packedValues}
+-- `downcrook_c::downcrook_read_plan` meets its contract: the library's answer is shown as it is, and the lent buffer is as the library leaves it. Assumes nothing.
+use mathlib.Core.Path.{ap, _∙_}
+use Rattle.downcrook_c.specs.Shown.{shown}
 use borrow.Author.Needs.{needs}
 use Rattle.downcrook_c.proofs.downcrook_read_plan.Statement.{statement}
 use Rattle.downcrook_c.proofs.downcrook_read_plan.Tie as tie
@@ -9,45 +8,16 @@ use Rattle.downcrook_c.proofs.downcrook_read_plan.Tie as tie
 read-plan-requires : tie.Need-read-plan-requires
 read-plan-requires c κs = search needs
 
-enum-known-answer : tie.Need-enum-known-answer
-enum-known-answer c = search needs
-
-pack-requires : tie.Need-pack-requires
-pack-requires c κs = search needs
-
-enum-known-answer-2 : tie.Need-enum-known-answer-2
-enum-known-answer-2 c = search needs
-
-pack-refusal-requires : tie.Need-pack-refusal-requires
-pack-refusal-requires c κs = search needs
+show-entries-requires : tie.Need-show-entries-requires
+show-entries-requires c κs = search needs
 
 same-length : tie.Need-same-length
 same-length c = search needs
 
 returns : tie.Need-returns
-unfolding packed packedValues
 returns c =
-    let done = c .before .before .before .before .before .before .read-plan .ensures in
-    (c .pack .ensures ∙ ap packed (sym (ap readAnswerOf (c .before .before .answer .given .1)) ∙ done .0), done .1)
-
-same-length-2 : tie.Need-same-length-2
-same-length-2 c = search needs
-
-returns-2 : tie.Need-returns-2
-returns-2 c =
-    let done = c .before .before .before .before .before .before .read-plan .ensures in
-    (c .pack-refusal .ensures ∙ ap packed (sym (ap readAnswerOf (c .before .before .answer2 .given .1)) ∙ done .0), done .1)
+    let done = c .before .before .before .read-plan .ensures in
+    (c .show-entries .ensures ∙ ap (shown 2) (done .0), done .1)
 
 pub downcrook-read-plan-spec : {M : Type 1} → statement M
-downcrook-read-plan-spec =
-    tie.close
-    (tie.spec
-    read-plan-requires
-    enum-known-answer
-    pack-requires
-    enum-known-answer-2
-    pack-refusal-requires
-    same-length
-    returns
-    same-length-2
-    returns-2)
+downcrook-read-plan-spec = tie.close (tie.spec read-plan-requires show-entries-requires same-length returns)
