@@ -12,7 +12,7 @@ use Rattle.policy.specs.declared.densest.Leader.{Leader}
 use Rattle.policy.specs.Rounds.{Day, Progress, load, len, Interval, nowhere, between, pick}
 use Rattle.policy.specs.Runs.{DataInterval}
 use Rattle.policy.specs.Steps.{dueTo, swept, considered, led, leaderAhead}
-use Rattle.policy.proofs.Sweeping.{empty-stays, unmarked-stays, first-leads, ahead-leads, behind-stays}
+use Rattle.policy.proofs.Sweeping.{unmarked-loses, empty-loses, first-wins, rule-decides, wins-leads, loses-stays}
 use Rattle.policy.proofs.Order.{before-ahead, before-behind}
 use Rattle.policy.proofs.Rule.{Positive, Standing, And, Among, figures, standing-fewer, standing-best, step-empty, step-behind, step-first, step-ahead, pick-best, best-pick}
 
@@ -69,21 +69,25 @@ leading-marked day done positive Seen x mark s e m d l = go (ℕ-discrete (load 
         → x ≡ record { start = s₀; end = e₀; load = load day done s₀ e₀; len = len day done s₀ e₀ }
         → Standing day done Seen (between s₀ e₀) → (b : Bool) → leaderAhead new x ≡ b → Result
     contested p s₀ e₀ h q st true r =
-        changes (some p) (ahead-leads x mark s e (load day done s e) (len day done s e) m p (λ z. omega (arith, h, z, ap (λ (y : Leader). y .load) q)) r)
+        changes (some p)
+        (wins-leads x mark s e (load day done s e) (len day done s e)
+        (rule-decides x mark s e (load day done s e) (len day done s e) m p (λ z. omega (arith, h, z, ap (λ (y : Leader). y .load) q)) true (sym r)))
         (step-ahead day done positive Seen s e d s₀ e₀ (some p)
         (before-ahead (figures day done s e) (figures day done s₀ e₀) (unfold leaderAhead in (sym (ap (leaderAhead new) q) ∙ r))) st)
     contested p s₀ e₀ h q st false r =
-        stays (behind-stays x mark s e (load day done s e) (len day done s e) m p (λ z. omega (arith, h, z, ap (λ (y : Leader). y .load) q)) r)
+        stays
+        (loses-stays x mark s e (load day done s e) (len day done s e)
+        (rule-decides x mark s e (load day done s e) (len day done s e) m p (λ z. omega (arith, h, z, ap (λ (y : Leader). y .load) q)) false (sym r)))
         (between s₀ e₀) (somebody s₀ e₀ h q)
         (step-behind day done positive Seen s e d s₀ e₀
         (before-behind (figures day done s e) (figures day done s₀ e₀) (unfold leaderAhead in (sym (ap (leaderAhead new) q) ∙ r))) st)
 
     go : Dec (load day done s e ≡ 0) → (i : Interval) → Shows day done x i → Standing day done Seen i → Result
     go (yes p) i sh st =
-        stays (empty-stays x mark s e (load day done s e) (len day done s e) m p) i sh
+        stays (loses-stays x mark s e (load day done s e) (len day done s e) (empty-loses x mark s e (load day done s e) (len day done s e) m p)) i sh
         (step-empty day done positive Seen s e d (λ h. omega (arith, h, p)) i st)
     go (no p) _ (nobody q) st =
-        changes (some p) (first-leads x mark s e (load day done s e) (len day done s e) m p q) (step-first day done positive Seen s e d (some p) st)
+        changes (some p) (wins-leads x mark s e (load day done s e) (len day done s e) (first-wins x mark s e (load day done s e) (len day done s e) m p q)) (step-first day done positive Seen s e d (some p) st)
     go (no p) _ (somebody s₀ e₀ h q) st = contested p s₀ e₀ h q st (leaderAhead new x) refl
 
 module _ (day : Day) (done : Progress) (count : ℕ) (from start passed arrivals deadlines bounds due reach : List ℕ) (board : Board day done count from start passed arrivals deadlines bounds due reach) where
@@ -160,7 +164,9 @@ module _ (day : Day) (done : Progress) (count : ℕ) (from start passed arrivals
         go : Dec (mark ≡ 0) → Leading day done (UpToBound Seen s m) y
             → Next (considered y mark s e (dueTo arrivals due s (suc m)) (getD reach m 0 - base))
         go (yes z) l =
-            subst Next (unmarked-stays y mark s e (dueTo arrivals due s (suc m)) (getD reach m 0 - base) z)
+            subst Next
+            (loses-stays y mark s e (dueTo arrivals due s (suc m)) (getD reach m 0 - base)
+            (unmarked-loses y mark s e (dueTo arrivals due s (suc m)) (getD reach m 0 - base) z))
             (leading-fewer day done (UpToBound Seen s m) (UpToBound Seen s (suc m)) y (up-to-unmarked Seen s m z) l)
         go (no z) l =
             subst₂ (λ (a c : ℕ). Next (considered y mark s e a c)) (sym (board .load-is s m h z)) (sym (board .len-is i m p h))

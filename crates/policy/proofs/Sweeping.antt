@@ -1,8 +1,9 @@
 -- The turns of the sweep, over plain variables. Assumes nothing.
 use Prim.Native.Nat.{ℕ, suc, _+_, _-_, _*_, _/_, _^_, _<_, _≤_}
-use mathlib.Core.Path.{_≡_, refl, ap, ap₂, _∙_}
-use mathlib.Core.Bool.{true, false}
+use mathlib.Core.Path.{_≡_, refl, sym, ap, ap₂, _∙_}
+use mathlib.Core.Bool.{Bool, true, false}
 use mathlib.Core.List.{List}
+use mathlib.Core.Logic.{_⊎_, inl, inr}
 use native.Mathlib.Omega.{arith}
 use native.Mathlib.Numerals.{add-one}
 use lib.ListN.{getD}
@@ -11,13 +12,44 @@ use native.Mathlib.Decide.{decLt}
 use borrow.Author.Tests.{eq-eqb, ne-eqb, lt-leb, le-leb}
 use Rattle.policy.specs.declared.densest.Leader.{Leader}
 use Rattle.policy.specs.Windows.{sum, choose, onlyIf}
-use Rattle.policy.specs.Steps.{countedFrom, dueTo, swept, considered, led, Small, leaderAhead}
+use Rattle.policy.specs.Steps.{countedFrom, dueTo, swept, winning, considered, led, Small, leaderAhead}
 use Rattle.policy.proofs.Left.{onlyIf-most}
 use Rattle.policy.proofs.Order.{Figures}
 
 -- a leader's figures
 abbrev pub figuresOf : Leader → Figures
 figuresOf x = record { start = x .start; end = x .end; load = x .load; len = x .len }
+
+-- ## One contest
+
+module _ (best : Leader) (mark s e load len : ℕ) where
+  abbrev new : Leader
+  new = record { start = s; end = e; load = load; len = len }
+
+  pub unmarked-loses : mark ≡ 0 → false ≡ winning best mark s e load len
+  unfolding winning choose
+  unmarked-loses p = rw (eq-eqb mark 0 p) refl
+
+  pub empty-loses : (mark ≡ 0 → ⊥) → load ≡ 0 → false ≡ winning best mark s e load len
+  unfolding winning choose
+  empty-loses m p = rw (ne-eqb mark 0 m, eq-eqb load 0 p) refl
+
+  pub first-wins : (mark ≡ 0 → ⊥) → (load ≡ 0 → ⊥) → best .load ≡ 0 → true ≡ winning best mark s e load len
+  unfolding winning choose
+  first-wins m l p = rw (ne-eqb mark 0 m, ne-eqb load 0 l, eq-eqb (best .load) 0 p) refl
+
+  pub rule-decides : (mark ≡ 0 → ⊥) → (load ≡ 0 → ⊥) → (best .load ≡ 0 → ⊥) → (b : Bool) → b ≡ leaderAhead new best → b ≡ winning best mark s e load len
+  unfolding winning choose
+  rule-decides m l p b q = rw (ne-eqb mark 0 m, ne-eqb load 0 l, ne-eqb (best .load) 0 p) q
+
+  -- what wins leads, and what does not leaves the leader
+  pub wins-leads : true ≡ winning best mark s e load len → new ≡ considered best mark s e load len
+  unfolding considered choose
+  wins-leads p = rw (← p) refl
+
+  pub loses-stays : false ≡ winning best mark s e load len → best ≡ considered best mark s e load len
+  unfolding considered choose
+  loses-stays p = rw (← p) refl
 
 -- ## The sweep
 
@@ -77,6 +109,22 @@ swept-next arrivals deadlines bounds due reach s base best leader load j more le
     total : load + more ≡ dueTo arrivals due s (suc j)
     total = unfold dueTo sum in ap₂ _+_ (t .load-is) m
 
+-- one more in the row, and a new leader where it wins
+pub swept-turn : (arrivals deadlines bounds due reach : List ℕ) (s base : ℕ) (best leader : Leader) (load j more len : ℕ) (leader' : Leader) (r : Bool)
+    → SweptSoFar arrivals deadlines bounds due reach s base best leader load j → more ≡ countedFrom s (getD arrivals j 0) (getD due j 0)
+    → getD due j 0 ≤ 65535 → j < 64 → len ≡ getD reach j 0 - base → len < 2 ^ 32
+    → r ≡ winning leader (getD bounds (j + 1) 0) s (getD deadlines j 0) (load + more) len
+    → ((r ≡ true) × (leader' ≡ record { start = s; end = getD deadlines j 0; load = load + more; len = len })) ⊎ ((r ≡ false) × (leader' ≡ leader))
+    → SweptSoFar arrivals deadlines bounds due reach s base best leader' (load + more) (j + 1)
+swept-turn arrivals deadlines bounds due reach s base best leader load j more len leader' r t m d few l f w (inl (p, q)) =
+    swept-next arrivals deadlines bounds due reach s base best leader load j more len leader' t m d l
+    (q ∙ wins-leads leader (getD bounds (j + 1) 0) s (getD deadlines j 0) (load + more) len (sym p ∙ w))
+    (rw q (record { load = omega (arith, few, load-fits arrivals deadlines bounds due reach s base best leader load j more t m d); len = f }))
+swept-turn arrivals deadlines bounds due reach s base best leader load j more len leader' r t m d few l f w (inr (p, q)) =
+    swept-next arrivals deadlines bounds due reach s base best leader load j more len leader' t m d l
+    (q ∙ loses-stays leader (getD bounds (j + 1) 0) s (getD deadlines j 0) (load + more) len (sym p ∙ w))
+    (rw q (t .small))
+
 -- one arrival more
 pub led-next : (count : ℕ) (from start passed arrivals deadlines bounds due reach : List ℕ) (i : ℕ) (leader leader' : Leader)
     → leader ≡ led count from start passed arrivals deadlines bounds due reach i
@@ -84,29 +132,3 @@ pub led-next : (count : ℕ) (from start passed arrivals deadlines bounds due re
     → leader' ≡ led count from start passed arrivals deadlines bounds due reach (i + 1)
 led-next count from start passed arrivals deadlines bounds due reach i leader leader' p q =
     rw add-one (unfold led in (q ∙ ap (λ (x : Leader). swept arrivals deadlines bounds due reach (getD from i 0) (getD passed (getD start i 0) 0) x count) p))
-
--- ## One contest
-
-module _ (best : Leader) (mark s e load len : ℕ) where
-  abbrev new : Leader
-  new = record { start = s; end = e; load = load; len = len }
-
-  pub unmarked-stays : mark ≡ 0 → best ≡ considered best mark s e load len
-  unfolding considered choose
-  unmarked-stays p = rw (eq-eqb mark 0 p) refl
-
-  pub empty-stays : (mark ≡ 0 → ⊥) → load ≡ 0 → best ≡ considered best mark s e load len
-  unfolding considered choose
-  empty-stays m p = rw (ne-eqb mark 0 m, eq-eqb load 0 p) refl
-
-  pub first-leads : (mark ≡ 0 → ⊥) → (load ≡ 0 → ⊥) → best .load ≡ 0 → new ≡ considered best mark s e load len
-  unfolding considered choose
-  first-leads m l p = rw (ne-eqb mark 0 m, ne-eqb load 0 l, eq-eqb (best .load) 0 p) refl
-
-  pub ahead-leads : (mark ≡ 0 → ⊥) → (load ≡ 0 → ⊥) → (best .load ≡ 0 → ⊥) → leaderAhead new best ≡ true → new ≡ considered best mark s e load len
-  unfolding considered choose
-  ahead-leads m l b p = rw (ne-eqb mark 0 m, ne-eqb load 0 l, ne-eqb (best .load) 0 b, p) refl
-
-  pub behind-stays : (mark ≡ 0 → ⊥) → (load ≡ 0 → ⊥) → (best .load ≡ 0 → ⊥) → leaderAhead new best ≡ false → best ≡ considered best mark s e load len
-  unfolding considered choose
-  behind-stays m l b p = rw (ne-eqb mark 0 m, ne-eqb load 0 l, ne-eqb (best .load) 0 b, p) refl

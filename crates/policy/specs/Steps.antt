@@ -2,7 +2,7 @@
 -- Seconds and bytes. Assumes nothing.
 use Prim.Native.Nat.{ℕ, zero, suc, pred, _+_, _-_, _^_, _<_, _≤_}
 use mathlib.Core.Path.{_≡_}
-use mathlib.Core.Bool.{Bool, _&&_, _||_}
+use mathlib.Core.Bool.{Bool, false, _&&_, _||_}
 use mathlib.Core.List.{List}
 use lib.ListN.{getD, length, take}
 use lib.Dec.{eqb, leb, ltb}
@@ -154,13 +154,16 @@ pub record SweepsFit (count : ℕ) (from start arrivals due reach : List ℕ) : 
 unfoldable pub leaderAhead : Leader → Leader → Bool
 leaderAhead x y = ahead (x .load) (x .len) (x .start) (x .end) (y .load) (y .len) (y .start) (y .end)
 
--- the leader, or [s, e) where that is marked, has load, and comes first
+-- whether [s, e) is marked, has load, and comes before the leader
+unfoldable pub winning : Leader → ℕ → ℕ → ℕ → ℕ → ℕ → Bool
+winning best mark s e load len =
+    choose (eqb mark 0) false
+    (choose (eqb load 0) false
+    (eqb (best .load) 0 || leaderAhead (record { start = s; end = e; load = load; len = len }) best))
+
+-- the leader, or [s, e) where that wins
 unfoldable pub considered : Leader → ℕ → ℕ → ℕ → ℕ → ℕ → Leader
-considered best mark s e load len =
-    choose (eqb mark 0) best
-    (choose (eqb load 0) best
-    (choose (eqb (best .load) 0 || leaderAhead (record { start = s; end = e; load = load; len = len }) best)
-    (record { start = s; end = e; load = load; len = len }) best))
+considered best mark s e load len = choose (winning best mark s e load len) (record { start = s; end = e; load = load; len = len }) best
 
 -- the bytes of the first j in the row that arrive from s on
 unfoldable pub dueTo : List ℕ → List ℕ → ℕ → ℕ → ℕ

@@ -1,10 +1,10 @@
 -- `policy::densest::sweep` meets its contract. The invariant, `SweptSoFar`: leader and load are those of the first j in the row, and small. Assumes nothing.
-use lib.ListN.{getD}
 use native.Mathlib.Omega.{arith}
 use Prim.Native.Nat.{_-_, _≤_}
 use mathlib.Core.Path.{ap, _∙_}
+use mathlib.Core.Logic.{inl, inr, ⊎-elim}
 use Rattle.policy.specs.Steps.{swept}
-use Rattle.policy.proofs.Sweeping.{SweptSoFar, swept-first, swept-next, load-fits}
+use Rattle.policy.proofs.Sweeping.{SweptSoFar, swept-first, swept-turn, load-fits}
 use borrow.Author.Needs.{needs}
 use Rattle.policy.proofs.densest.sweep.Statement.{statement}
 use Rattle.policy.proofs.densest.sweep.Tie as tie
@@ -45,23 +45,23 @@ element-copy-out-beyond c = search needs
 beyond-requires : tie.Need-beyond-requires Inv-loop μ-loop
 beyond-requires c κs = search needs
 
-add-contest : tie.Need-add-contest Inv-loop μ-loop
-add-contest c = omega (arith, c .before .before .before .before .before .before .before .pre .few)
+mul-e : tie.Need-mul-e Inv-loop μ-loop
+mul-e c = search needs
 
-mul-contest : tie.Need-mul-contest Inv-loop μ-loop
-mul-contest c = omega (arith, c .before .before .before .before .before .before .before .pre .few)
+element-copy-out-e : tie.Need-element-copy-out-e Inv-loop μ-loop
+element-copy-out-e c = search needs
 
-element-copy-out-contest : tie.Need-element-copy-out-contest Inv-loop μ-loop
-element-copy-out-contest c = omega (arith, c .before .before .before .before .before .before .before .pre .few)
+add-wins : tie.Need-add-wins Inv-loop μ-loop
+add-wins c = omega (arith, c .before .before .before .before .before .before .before .before .pre .few)
 
-mul-contest-2 : tie.Need-mul-contest-2 Inv-loop μ-loop
-mul-contest-2 c = search needs
+mul-wins : tie.Need-mul-wins Inv-loop μ-loop
+mul-wins c = omega (arith, c .before .before .before .before .before .before .before .before .pre .few)
 
-element-copy-out-contest-2 : tie.Need-element-copy-out-contest-2 Inv-loop μ-loop
-element-copy-out-contest-2 c = search needs
+element-copy-out-wins : tie.Need-element-copy-out-wins Inv-loop μ-loop
+element-copy-out-wins c = omega (arith, c .before .before .before .before .before .before .before .before .pre .few)
 
-contest-requires : tie.Need-contest-requires Inv-loop μ-loop
-contest-requires c κs = (c .before .before .before .before .before .before .before .before .loop .inv .1 .small, omega (arith, c .before .before .before .before .before .before .before .before .before .pre .few, load-fits _ _ _ _ _ _ _ _ _ _ _ _ (c .before .before .before .before .before .before .before .before .loop .inv .1) (c .before .before .before .before .counted-from .ensures) (c .before .before .before .before .before .before .before .before .before .pre .due-most _ (c .before .before .before .before .before .before .before .loop-test .taken))), omega (arith, c .before .before .beyond .ensures, c .before .before .before .before .before .before .before .before .before .pre .reach-most _ (c .before .before .before .before .before .before .before .loop-test .taken)))
+wins-requires : tie.Need-wins-requires Inv-loop μ-loop
+wins-requires c κs = (c .before .before .before .before .before .before .before .before .loop .inv .1 .small, omega (arith, c .before .before .before .before .before .before .before .before .before .pre .few, load-fits _ _ _ _ _ _ _ _ _ _ _ _ (c .before .before .before .before .before .before .before .before .loop .inv .1) (c .before .before .before .before .counted-from .ensures) (c .before .before .before .before .before .before .before .before .before .pre .due-most _ (c .before .before .before .before .before .before .before .loop-test .taken))), omega (arith, c .before .before .beyond .ensures, c .before .before .before .before .before .before .before .before .before .pre .reach-most _ (c .before .before .before .before .before .before .before .loop-test .taken)))
 
 add-j : tie.Need-add-j Inv-loop μ-loop
 add-j c = search needs
@@ -70,7 +70,7 @@ loop-less : tie.Need-loop-less Inv-loop μ-loop
 loop-less c = search needs
 
 loop-again : tie.Need-loop-again Inv-loop μ-loop
-loop-again c = (omega arith, swept-next _ _ _ _ _ _ _ _ _ _ _ _ _ _ (c .before .before .before .before .before .before .before .before .before .loop .inv .1) (c .before .before .before .before .before .counted-from .ensures) (c .before .before .before .before .before .before .before .before .before .before .pre .due-most _ (c .before .before .before .before .before .before .before .before .loop-test .taken)) (c .before .before .before .beyond .ensures) (c .contest .ensures .0) (c .contest .ensures .1))
+loop-again c = (omega arith, swept-turn _ _ _ _ _ _ _ _ _ _ _ _ _ _ _ (c .before .before .before .before .before .before .before .before .before .before .loop .inv .1) (c .before .before .before .before .before .before .counted-from .ensures) (c .before .before .before .before .before .before .before .before .before .before .before .pre .due-most _ (c .before .before .before .before .before .before .before .before .before .loop-test .taken)) (omega (arith, c .before .before .before .before .before .before .before .before .before .before .before .pre .few, c .before .before .before .before .before .before .before .before .before .loop-test .taken)) (c .before .before .before .before .beyond .ensures) (omega (arith, c .before .before .before .before .beyond .ensures, c .before .before .before .before .before .before .before .before .before .before .before .pre .reach-most _ (c .before .before .before .before .before .before .before .before .before .loop-test .taken))) (c .before .wins .ensures) (⊎-elim (λ w. inl (w .0 .taken, w .1)) (λ w. inr (w .0 .left, w .1)) (c .if1 .came)))
 
 returns : tie.Need-returns Inv-loop μ-loop
 returns c = (c .before .loop .inv .1 .leads ∙ ap (swept _ _ _ _ _ _ _ _) (omega arith), c .before .loop .inv .1 .small)
@@ -91,12 +91,12 @@ sweep-spec =
     mul-beyond
     element-copy-out-beyond
     beyond-requires
-    add-contest
-    mul-contest
-    element-copy-out-contest
-    mul-contest-2
-    element-copy-out-contest-2
-    contest-requires
+    mul-e
+    element-copy-out-e
+    add-wins
+    mul-wins
+    element-copy-out-wins
+    wins-requires
     add-j
     loop-less
     loop-again
