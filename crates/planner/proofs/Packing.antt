@@ -125,19 +125,19 @@ module _ (bytes frame : List ℕ) where
 rest : ℕ → List ℕ → List ℕ → List ℕ
 rest count records zeros = drop (0 + length (planNumbers (entriesOf count records))) zeros
 
-module _ (count : ℕ) (records frame zeros rows : List ℕ) (made : Timetable) (accepted : Accepted count records) (planned : Planned count records made)
-    (copied : rows ≡ sets zeros 0 (sixes (made .count) (made .entries))) (roomy : entryNumbers * mostEntries ≤ length zeros) where
+module _ (count : ℕ) (records frame zeros rows made-entries : List ℕ) (made : Timetable) (accepted : Accepted count records) (planned : Planned count records made-entries made)
+    (copied : rows ≡ sets zeros 0 (sixes (made .count) made-entries)) (roomy : entryNumbers * mostEntries ≤ length zeros) where
   -- the rows are the plan's numbers, and behind them what stood there
   rows-are : rows ≡ planNumbers (entriesOf count records) ++ rest count records zeros
   unfolding rest
   rows-are =
       let t = timetable count records accepted in
       let long = length-numbers (entriesOf count records) in
-      let split : made .entries ≡ numbersOf (entriesOf count records) ++ drop (madeNumbers * made .count) (made .entries) =
-      sym (take-append-drop (madeNumbers * made .count) (made .entries))
-      ∙ ap (λ (l : List ℕ). l ++ drop (madeNumbers * made .count) (made .entries)) (planned .entries-are) in
-      let six : sixes (made .count) (made .entries) ≡ planNumbers (entriesOf count records) =
-      ap (λ (k : ℕ). sixes k (made .entries)) (planned .count-is)
+      let split : made-entries ≡ numbersOf (entriesOf count records) ++ drop (madeNumbers * made .count) made-entries =
+      sym (take-append-drop (madeNumbers * made .count) made-entries)
+      ∙ ap (λ (l : List ℕ). l ++ drop (madeNumbers * made .count) made-entries) (planned .entries-are) in
+      let six : sixes (made .count) made-entries ≡ planNumbers (entriesOf count records) =
+      ap (λ (k : ℕ). sixes k made-entries) (planned .count-is)
       ∙ ap (sixes (length (entriesOf count records))) split
       ∙ numbers-sixes (entriesOf count records) _ in
       copied ∙ ap (sets zeros 0) six ∙ sets-eq (planNumbers (entriesOf count records)) zeros 0 (omega (arith, t .few))

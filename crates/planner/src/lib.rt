@@ -43,8 +43,8 @@ fn plan_packets(count: usize, records: &[u64], frame: &mut [u8]) -> PlanAnswer
     requires { ⌜ Accepted count (now records) ⌝ }
     ensures { λ r. ⌜ Packed count (now (records .entry)) (now (frame .entry)) r (now (frame .exit)) ⌝ }
 {
-    let made = made_of(count, records);
-    let entries = made.entries;
+    let mut entries = [0u64; 1337];
+    let made = made_of(count, records, &mut entries);
     let mut rows = [0u64; 1146];
     rows::copy_rows(made.count, &entries, &mut rows);
     let answer = frame::write_plan(made.count, &rows, made.cost, frame);

@@ -36,7 +36,7 @@ tests-refuse count records lent refusal h =
     let e : refusalOf refusal ≡ timetablesOutcome count records (length lent) = sym (refused-then refusal _ h) in
     record { answer-is = e; exit-is = sym (refused-leaves refusal (overwritten (numbersOf (entriesOf count records)) lent) lent e) }
 
-module _ (count : ℕ) (records : List ℕ) (accepted : Accepted count records) (lent : List ℕ) (made : Timetable) (p : Planned count records made) where
+module _ (count : ℕ) (records : List ℕ) (accepted : Accepted count records) (lent rows : List ℕ) (made : Timetable) (p : Planned count records rows made) where
   -- the tests pass
   passed : timetablesOutcome count records (length lent)
       ≡ (refuses 8 0 when ltb (length lent) (entryNumbers * length (entriesOf count records)) else
@@ -61,13 +61,13 @@ module _ (count : ℕ) (records : List ℕ) (accepted : Accepted count records) 
 
   -- room enough
   pub room-enough : (numbers : ℕ) (exit : List ℕ) → numbers ≡ entryNumbers * made .count → numbers ≤ length lent
-      → exit ≡ overwritten (take numbers (made .entries)) lent → Timetabled count records lent (Made (made .rounds) (made .count) (made .cost)) exit
+      → exit ≡ overwritten (take numbers rows) lent → Timetabled count records lent (Made (made .rounds) (made .count) (made .cost)) exit
   unfolding entriesAfter
   room-enough numbers exit e h x =
       record {
         answer-is = enough;
         exit-is =
-            x ∙ ap (λ (rows : List ℕ). overwritten rows lent) (ap (λ (n : ℕ). take n (made .entries)) e ∙ p .entries-are) ∙
+            x ∙ ap (λ (l : List ℕ). overwritten l lent) (ap (λ (n : ℕ). take n rows) e ∙ p .entries-are) ∙
             sym (given-leaves (overwritten (numbersOf (entriesOf count records)) lent) lent enough);
       }
     where

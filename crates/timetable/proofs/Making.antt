@@ -65,7 +65,7 @@ module _ (count : ℕ) (records : List ℕ) (accepted : Accepted count records) 
 
   -- after the last
   pub making-last : (unsent entries : List ℕ) (at k n cost : ℕ) → Underway count records k unsent entries at → k ≡ m - 1 → n ≡ at / 7 → cost ≡ costOf count records
-      → Planned count records (record { entries = entries; count = n; rounds = rounds; cost = cost })
+      → Planned count records entries (record { count = n; rounds = rounds; cost = cost })
   making-last unsent entries at k n cost u e n-is c =
       record {
         entries-long = u .entries-long;

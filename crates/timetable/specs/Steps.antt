@@ -94,9 +94,9 @@ pub record UnitsAtFirst (count : ℕ) (records unsent : List ℕ) : Type 0 where
   pub is : (i : ℕ) → i < count → getD unsent i 0 ≡ sheetAt (dayOf count records) (outcomeOf count records) 0 .unsent i
 
 -- the timetables of a list: the numbers of its entries at the front of the array, how many entries, the rounds and the radio cost
-pub record Planned (count : ℕ) (records : List ℕ) (made : Timetable) : Type 0 where
-  pub entries-long : length (made .entries) ≡ entryNumbers * mostEntries
-  pub entries-are : take (entryNumbers * made .count) (made .entries) ≡ numbersOf (entriesOf count records)
+pub record Planned (count : ℕ) (records entries : List ℕ) (made : Timetable) : Type 0 where
+  pub entries-long : length entries ≡ entryNumbers * mostEntries
+  pub entries-are : take (entryNumbers * made .count) entries ≡ numbersOf (entriesOf count records)
   pub count-is : made .count ≡ length (entriesOf count records)
   pub rounds-are : made .rounds ≡ outcomeOf count records .rounds
   pub cost-is : made .cost ≡ costOf count records

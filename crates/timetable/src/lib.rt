@@ -45,12 +45,12 @@ fn judged_timetables(count: usize, records: &[u64], entries: &mut [u64]) -> Time
     requires { ⌜ Accepted count (now records) ⌝ }
     ensures { λ r. ⌜ Timetabled count (now (records .entry)) (now (entries .entry)) r (now (entries .exit)) ⌝ }
 {
-    let made = made_of(count, records);
+    let mut rows = [0u64; 1337];
+    let made = made_of(count, records, &mut rows);
     let numbers = ENTRY_NUMBERS * made.count;
     if entries.len() < numbers {
         return TimetableAnswer::Refused(Refusal::NoRoom);
     }
-    let rows = made.entries;
     copy_in(numbers, &rows, entries);
     TimetableAnswer::Made {
         rounds: made.rounds,

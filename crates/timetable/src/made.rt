@@ -1,7 +1,11 @@
 // The whole timetable of judged packets: epoch after epoch, then the radio cost.
 ghost use mathlib.Core.Path.{_≡_};
+ghost use Prim.Native.Nat.{_*_};
+ghost use lib.ListN.{length};
 ghost use Rattle.packets.specs.Records.{Accepted};
 ghost use Rattle.timetable.specs.Costs.{costOf};
+ghost use Rattle.timetable.specs.Entries.{entryNumbers};
+ghost use Rattle.timetable.specs.Right.{mostEntries};
 ghost use Rattle.timetable.specs.Steps.{PacketDs, PacketRates, Planned, UnitsAtFirst};
 use crate::epoch::epoch_step;
 use crate::epoch::setting_of;
@@ -13,19 +17,17 @@ use policy::rates::rates_of;
 // The numbers of an entry.
 pub const ENTRY_NUMBERS: usize = 7;
 
-// The timetables of a list: seven numbers for each entry, how many entries, the rounds, and the radio cost (bytes per second, squared, times seconds).
-// 191 entries take 1,337 numbers.
+// The timetables of a list whose entries stand in a lent array: how many entries, the rounds, and the radio cost (bytes per second, squared, times seconds).
 pub struct Timetable {
-    pub entries: [u64; 1337],
     pub count: usize,
     pub rounds: usize,
     pub cost: u64,
 }
 
-// The timetables of judged packets.
-pub fn made_of(count: usize, records: &[u64]) -> Timetable
-    requires { ⌜ Accepted count (now records) ⌝ }
-    ensures { λ r. ⌜ Planned count (now (records .entry)) r ⌝ }
+// The timetables of judged packets. Seven numbers for each entry go to the front of the lent array; 191 entries take its 1,337 numbers.
+pub fn made_of(count: usize, records: &[u64], entries: &mut [u64]) -> Timetable
+    requires { ⌜ Accepted count (now records) × (length (now entries) ≡ entryNumbers * mostEntries) ⌝ }
+    ensures { λ r. ⌜ Planned count (now (records .entry)) (now (entries .exit)) r ⌝ }
 {
     let found = rates_of(count, records);
     let epochs = found.n - 1;
@@ -38,7 +40,6 @@ pub fn made_of(count: usize, records: &[u64]) -> Timetable
     let epoch_n = given.n;
     let epoch_d = given.d;
     let mut unsent = units_at_first(count, records, &d);
-    let mut entries = [0u64; 1337];
     let mut at = 0;
     let mut k = 0;
     while k < epochs {
@@ -53,13 +54,12 @@ pub fn made_of(count: usize, records: &[u64]) -> Timetable
             &n,
             &d,
             &mut unsent,
-            &mut entries,
+            entries,
             at,
         );
         k += 1;
     }
     Timetable {
-        entries,
         count: at / ENTRY_NUMBERS,
         rounds: found.rounds,
         cost: radio_cost(count, records, &n, &d),

@@ -1,6 +1,6 @@
 -- `planner::plan_packets` meets its contract: the timetable's numbers are copied, and the plan writer is asked for the list's plan (`plan-written`,
 -- `plan-refused`). Assumes nothing.
-use mathlib.Core.Path.{_≡_, sym, ap, _∙_}
+use mathlib.Core.Path.{_≡_, refl, sym, ap, _∙_}
 use native.Mathlib.Omega.{arith}
 use Rattle.plan.specs.Frame.{frameAnswerOf}
 use Rattle.timetable.proofs.Lists.{timetable}
@@ -9,8 +9,11 @@ use borrow.Author.Needs.{needs}
 use Rattle.planner.proofs.plan_packets.Statement.{statement}
 use Rattle.planner.proofs.plan_packets.Tie as tie
 
+slice-aggregate-made-of : tie.Need-slice-aggregate-made-of
+slice-aggregate-made-of c = search needs
+
 made-of-requires : tie.Need-made-of-requires
-made-of-requires c κs = search needs
+made-of-requires c κs = (c .before .before .before .pre, refl)
 
 slice-aggregate-copy-rows : tie.Need-slice-aggregate-copy-rows
 slice-aggregate-copy-rows c = search needs
@@ -19,11 +22,7 @@ slice-aggregate-copy-rows-2 : tie.Need-slice-aggregate-copy-rows-2
 slice-aggregate-copy-rows-2 c = search needs
 
 copy-rows-requires : tie.Need-copy-rows-requires
-copy-rows-requires c κs =
-    let m = c .before .before .before in
-    let p = m .made-of .ensures in
-    let t = timetable _ _ (m .before .before .before .pre) in
-    (omega (arith, p .entries-long, p .count-is, t .few), omega (arith, p .count-is, t .few))
+copy-rows-requires c κs = let p = c .before .before .before .made-of .ensures in let t = timetable _ _ (c .before .before .before .before .before .before .before .pre) in (omega (arith, p .entries-long, p .count-is, t .few), omega (arith, p .count-is, t .few))
 
 slice-aggregate-write-plan : tie.Need-slice-aggregate-write-plan
 slice-aggregate-write-plan c = search needs
@@ -41,28 +40,19 @@ same-length : tie.Need-same-length
 same-length c = search needs
 
 returns : tie.Need-returns
-returns c =
-    let w = c .before .before .before .before in
-    let k = w .before .before .before .before in
-    let m = k .before .before .before .before in
-    plan-written _ _ _ _ _ (m .made-of .result) (m .before .before .before .pre) (m .made-of .ensures) (k .copy-rows .ensures) (omega arith) (c .enum-told .given .0 .0)
-    (sym (ap frameAnswerOf (c .enum-told .given .1)) ∙ w .write-plan .ensures .0) (w .write-plan .ensures .1)
+returns c = plan-written _ _ _ _ _ _ _ (c .before .before .before .before .before .before .before .before .before .before .before .before .before .before .before .before .pre) (c .before .before .before .before .before .before .before .before .before .before .before .before .made-of .ensures) (c .before .before .before .before .before .before .before .before .copy-rows .ensures) (omega arith) (c .enum-told .given .0 .0) (sym (ap frameAnswerOf (c .enum-told .given .1)) ∙ c .before .before .before .before .write-plan .ensures .0) (c .before .before .before .before .write-plan .ensures .1)
 
 same-length-2 : tie.Need-same-length-2
 same-length-2 c = search needs
 
 returns-2 : tie.Need-returns-2
-returns-2 c =
-    let w = c .before .before .before .before .before in
-    let k = w .before .before .before .before in
-    let m = k .before .before .before .before in
-    plan-refused _ _ _ _ _ (m .made-of .result) (m .before .before .before .pre) (m .made-of .ensures) (k .copy-rows .ensures) (omega arith) (c .before .answer .given .0 .0)
-    (sym (ap frameAnswerOf (c .before .answer .given .1)) ∙ w .write-plan .ensures .0) (w .write-plan .ensures .1)
+returns-2 c = plan-refused _ _ _ _ _ _ _ (c .before .before .before .before .before .before .before .before .before .before .before .before .before .before .before .before .before .pre) (c .before .before .before .before .before .before .before .before .before .before .before .before .before .made-of .ensures) (c .before .before .before .before .before .before .before .before .before .copy-rows .ensures) (omega arith) (c .before .answer .given .0 .0) (sym (ap frameAnswerOf (c .before .answer .given .1)) ∙ c .before .before .before .before .before .write-plan .ensures .0) (c .before .before .before .before .before .write-plan .ensures .1)
 
 pub plan-packets-spec : {M : Type 1} → statement M
 plan-packets-spec =
     tie.close
     (tie.spec
+    slice-aggregate-made-of
     made-of-requires
     slice-aggregate-copy-rows
     slice-aggregate-copy-rows-2

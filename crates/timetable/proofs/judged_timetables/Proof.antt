@@ -6,31 +6,35 @@ use borrow.Author.Needs.{needs}
 use Rattle.timetable.proofs.judged_timetables.Statement.{statement}
 use Rattle.timetable.proofs.judged_timetables.Tie as tie
 
+slice-aggregate-made-of : tie.Need-slice-aggregate-made-of
+slice-aggregate-made-of c = search needs
+
 made-of-requires : tie.Need-made-of-requires
-made-of-requires c κs = search needs
+made-of-requires c κs = (c .before .before .before .pre, refl)
 
 mul-numbers : tie.Need-mul-numbers
-mul-numbers c = omega (arith, made-few (c .before .before .before .before .args .count) (c .before .before .before .before .args .records .now) (c .before .before .before .before .pre) (c .before .before .before .before .args .entries .now) (c .before .made-of .result) (c .before .made-of .ensures))
+mul-numbers c = omega (arith, made-few _ _ (c .before .before .before .before .before .before .pre) (c .before .before .before .before .before .before .args .entries .now) _ _ (c .before .before .made-of .ensures))
 
 returns : tie.Need-returns
-returns c = no-room (c .before .before .before .before .before .args .count) (c .before .before .before .before .before .args .records .now) (c .before .before .before .before .before .pre) (c .before .before .before .before .before .args .entries .now) (c .before .before .made-of .result) (c .before .before .made-of .ensures) _ refl (c .if1 .taken)
+returns c = no-room _ _ (c .before .before .before .before .before .before .before .pre) (c .before .before .before .before .before .before .before .args .entries .now) _ _ (c .before .before .before .made-of .ensures) _ refl (c .if1 .taken)
 
 slice-aggregate-copy-in : tie.Need-slice-aggregate-copy-in
 slice-aggregate-copy-in c = search needs
 
 copy-in-requires : tie.Need-copy-in-requires
-copy-in-requires c κs = (omega (arith, made-few (c .before .before .before .before .before .before .before .before .args .count) (c .before .before .before .before .before .before .before .before .args .records .now) (c .before .before .before .before .before .before .before .before .pre) (c .before .before .before .before .before .before .before .before .args .entries .now) (c .before .before .before .before .before .made-of .result) (c .before .before .before .before .before .made-of .ensures), c .before .before .before .before .before .made-of .ensures .entries-long), c .before .before .before .if1 .left)
+copy-in-requires c κs = (omega (arith, made-few _ _ (c .before .before .before .before .before .before .before .before .before .pre) (c .before .before .before .before .before .before .before .before .before .args .entries .now) _ _ (c .before .before .before .before .before .made-of .ensures), c .before .before .before .before .before .made-of .ensures .entries-long), c .before .before .if1 .left)
 
 same-length : tie.Need-same-length
 same-length c = search needs
 
 returns-2 : tie.Need-returns-2
-returns-2 c = room-enough (c .before .before .before .before .before .before .before .before .before .before .before .args .count) (c .before .before .before .before .before .before .before .before .before .before .before .args .records .now) (c .before .before .before .before .before .before .before .before .before .before .before .pre) (c .before .before .before .before .before .before .before .before .before .before .before .args .entries .now) (c .before .before .before .before .before .before .before .before .made-of .result) (c .before .before .before .before .before .before .before .before .made-of .ensures) _ _ refl (c .before .before .before .before .before .before .if1 .left) (c .before .before .copy-in .ensures)
+returns-2 c = room-enough _ _ (c .before .before .before .before .before .before .before .before .before .before .before .before .pre) (c .before .before .before .before .before .before .before .before .before .before .before .before .args .entries .now) _ _ (c .before .before .before .before .before .before .before .before .made-of .ensures) _ _ refl (c .before .before .before .before .before .if1 .left) (c .before .before .copy-in .ensures)
 
 pub judged-timetables-spec : {M : Type 1} → statement M
 judged-timetables-spec =
     tie.close
     (tie.spec
+    slice-aggregate-made-of
     made-of-requires
     mul-numbers
     returns
