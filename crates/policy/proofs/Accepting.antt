@@ -88,7 +88,6 @@ module _ (count : ℕ) (records : List ℕ) (accepted : Accepted count records) 
   unfolding dayOf packetsOf epochsOf
   proper =
       record {
-        window = λ i h. accepted .sound i h .early;
         some-bytes = λ i h. air-some (sizeOf records i) (accepted .sound i h .some);
         epoch = λ k h. rising-at points rising k (suc k) (omega arith) (next-point k h);
         arrivals = λ i k h g. undivided points rising (arrivalOf records i) (points-arrival count records i h) k g;

@@ -39,14 +39,6 @@ either : (a b : Bool) → (a || b) ≡ true → (a ≡ true) ⊎ (b ≡ true)
 either true b h = inl refl
 either false b h = inr h
 
-neither : (a b : Bool) → (a || b) ≡ false → (a ≡ false) × (b ≡ false)
-neither true b h = absurd (not-both-ways refl h)
-neither false b h = (refl, h)
-
-not-both : (a b : Bool) → (a && b) ≡ false → (a ≡ false) ⊎ (b ≡ false)
-not-both true b h = inr h
-not-both false b h = inl refl
-
 rule-true : (a b c d f : Bool) → (a ≡ true) ⊎ ((b ≡ true) × ((c ≡ true) ⊎ ((d ≡ true) × (f ≡ true)))) → (a || (b && (c || (d && f)))) ≡ true
 rule-true true b c d f h = refl
 rule-true false b c d f (inl p) = absurd (not-both-ways p refl)

@@ -1,4 +1,4 @@
--- What the rounds ask of a day: windows and weights above zero, epochs that no arrival and no deadline divides, an epoch in every packet's
+-- What the rounds ask of a day: weights above zero, epochs that no arrival and no deadline divides, an epoch in every packet's
 -- window, and totals within the figures. Every accepted list has such a day. Assumes nothing.
 use Prim.Native.Nat.{ℕ, _<_, _≤_}
 use mathlib.Core.Logic.{_⊎_}
@@ -9,7 +9,6 @@ use Rattle.policy.specs.Windows.{sum}
 use Rattle.policy.specs.Rounds.{Day}
 
 pub record Proper (day : Day) : Type 0 where
-  pub window : (i : ℕ) → i < day .packets .count → day .packets .from i < day .packets .till i
   pub some-bytes : (i : ℕ) → i < day .packets .count → 0 < day .packets .weight i
   pub epoch : (k : ℕ) → k < day .epochs .count → day .epochs .from k < day .epochs .till k
   -- no arrival lies inside an epoch

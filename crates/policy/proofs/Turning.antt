@@ -4,20 +4,19 @@ use Prim.Native.Nat.{ℕ, zero, suc, pred, _+_, _-_, _<_, _≤_}
 use mathlib.Core.Path.{_≡_, refl, sym, ap, ap₂, subst, subst₂, _∙_}
 use mathlib.Core.Bool.{Bool, true, false, _&&_}
 use mathlib.Core.List.{List}
-use mathlib.Core.Logic.{_⊎_, inl, inr}
 use native.Mathlib.Omega.{arith}
 use native.Mathlib.Decide.{decLt, ℕ-discrete}
 use native.Mathlib.Numerals.{sub-one, add-one}
 use lib.ListN.{length, getD, take}
 use lib.Seq.{getD-take}
-use lib.Dec.{eqb, leb, ltb}
+use lib.Dec.{eqb, leb}
 use borrow.Author.Tests.{eq-eqb, ne-eqb}
 use Rattle.packets.specs.Records.{sizeOf, arrivalOf, deadlineOf, Accepted}
 use Rattle.packets.specs.Limits.{airBytes}
 use Rattle.fractions.specs.Fraction.{lowestN, lowestD}
 use Rattle.fractions.proofs.LowestTerms.{lowestD-positive}
 use Rattle.policy.specs.declared.densest.Leader.{Leader}
-use Rattle.policy.specs.Windows.{Windows, Given, none, rate, unassigned, inside, onlyIf, choose, assign, sum}
+use Rattle.policy.specs.Windows.{Windows, Given, rate, unassigned, inside, onlyIf, choose, assign}
 use Rattle.policy.specs.Points.{pointsOf, packetsOf, epochsOf}
 use Rattle.policy.specs.Rounds.{Day, Progress, atFirst, load, len, nowhere, between, pick, giveRate, taken, roundOf, round, after, dayOf, outcomeOf}
 use Rattle.policy.specs.Steps.{Spanned, neighbours, leftOver, Left, fresh, chosen, Shared, PlaceIs, Placed, Gathered, Passed, countedFrom, dueTo, givenOf, SetUp, Rated, Ready, LeaderIs, Taken}
@@ -42,11 +41,6 @@ pub given-rate : (n d : ℕ) → 0 < d → givenOf n d ≡ rate n d
 unfolding givenOf
 given-rate n zero h = absurd (omega arith)
 given-rate n (suc d) h = refl
-
-pub given-form : (n d : ℕ) → ((d ≡ 0) × (givenOf n d ≡ none)) ⊎ (givenOf n d ≡ rate n d)
-unfolding givenOf
-given-form n zero = inl (refl, refl)
-given-form n (suc d) = inr refl
 
 given-chosen : (t : Bool) (n d n' d' : ℕ) → givenOf (chosen t n n') (chosen t d d') ≡ choose t (givenOf n d) (givenOf n' d')
 unfolding chosen choose

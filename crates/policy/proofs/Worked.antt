@@ -1,4 +1,4 @@
--- The worked lists A, C, D, E and F of document 01, and two more, go through the definitions: epochs and rounds, then start, N and D of each epoch.
+-- Lists on which wrong planners are refuted: A and D of document 01, and two more, go through the definitions: epochs and rounds, then start, N and D of each epoch.
 -- Assumes nothing.
 use Prim.Native.Nat.{ℕ}
 use mathlib.Core.Path.{_≡_, refl}
@@ -34,17 +34,6 @@ A =
       rows = 0 ∷ 5 ∷ 1 ∷ 2 ∷ 10 ∷ 1 ∷ 6 ∷ 5 ∷ 1 ∷ 8 ∷ 5 ∷ 1 ∷ 10 ∷ 9 ∷ 4 ∷ [];
     }
 
--- two packets of one window
-abbrev pub C : Case
-C =
-    record {
-      count = 2;
-      records = 3 ∷ 0 ∷ 4 ∷ 5 ∷ 0 ∷ 4 ∷ [];
-      room = 3;
-      answer = gives (1 ∷ 1 ∷ []);
-      rows = 0 ∷ 2 ∷ 1 ∷ [];
-    }
-
 -- rates 1/5 and 2
 abbrev pub D : Case
 D =
@@ -54,28 +43,6 @@ D =
       room = 6;
       answer = gives (2 ∷ 2 ∷ []);
       rows = 0 ∷ 1 ∷ 5 ∷ 5 ∷ 2 ∷ 1 ∷ [];
-    }
-
--- a silent epoch from 2 to 5 seconds
-abbrev pub E : Case
-E =
-    record {
-      count = 2;
-      records = 10 ∷ 0 ∷ 2 ∷ 10 ∷ 5 ∷ 7 ∷ [];
-      room = 9;
-      answer = gives (3 ∷ 2 ∷ []);
-      rows = 0 ∷ 5 ∷ 1 ∷ 2 ∷ 0 ∷ 1 ∷ 5 ∷ 5 ∷ 1 ∷ [];
-    }
-
--- the whole day
-abbrev pub F : Case
-F =
-    record {
-      count = 1;
-      records = 65535 ∷ 0 ∷ 86400 ∷ [];
-      room = 3;
-      answer = gives (1 ∷ 1 ∷ []);
-      rows = 0 ∷ 4369 ∷ 5760 ∷ [];
     }
 
 -- a tie: each packet by itself and both together have one density, 1 byte per second; one round
@@ -100,6 +67,6 @@ Close =
       rows = 0 ∷ 4166 ∷ 1 ∷ 1 ∷ 12500 ∷ 3 ∷ [];
     }
 
-pub worked : Holds A × Holds C × Holds D × Holds E × Holds F × Holds Tied × Holds Close
+pub worked : Holds A × Holds D × Holds Tied × Holds Close
 unfolding airBytes _when_else_ _then_ inOrder recordAt sizeOf arrivalOf deadlineOf recordTest recordTests memoryTests euclid gcd lowestN lowestD assign choose inside left onlyIf sum unassigned epochsOf packetsOf pointsOf withPoint after atFirst beats bestFrom bestOf better dayOf giveRate leads len load outcomeOf pick round roundOf taken epochCount epochRows ratesOf ratesOutcome shownD shownN
-worked = ((refl, refl), (refl, refl), (refl, refl), (refl, refl), (refl, refl), (refl, refl), (refl, refl))
+worked = ((refl, refl), (refl, refl), (refl, refl), (refl, refl))

@@ -27,14 +27,14 @@ module _ (x : Case) (holds : Holds x) (lent : List ℕ) (room : length lent ≡ 
 -- a planner that compares whole numbers: 25,000/6 and 4,166 bytes per second would be one density, and both packets one round
 not-whole-numbers : (lent exit : List ℕ) → length lent ≡ 6 → EpochsRated 2 (Close .records) lent (Rated 2 1) exit → ⊥
 not-whole-numbers lent exit room p =
-    let e : gives (2 ∷ 1 ∷ []) ≡ gives (2 ∷ 2 ∷ []) = p .answer-is ∙ sym (gave Close (worked .6) lent room (Rated 2 1) exit p (2 ∷ 2 ∷ []) refl) in
+    let e : gives (2 ∷ 1 ∷ []) ≡ gives (2 ∷ 2 ∷ []) = p .answer-is ∙ sym (gave Close (worked .3) lent room (Rated 2 1) exit p (2 ∷ 2 ∷ []) refl) in
     let z : _≡_ {A = ℕ} 1 2 = cc in
     omega arith
 
 -- a planner that gives a tie to the later start: two rounds
 not-later-start : (lent exit : List ℕ) → length lent ≡ 6 → EpochsRated 2 (Tied .records) lent (Rated 2 2) exit → ⊥
 not-later-start lent exit room p =
-    let e : gives (2 ∷ 2 ∷ []) ≡ gives (2 ∷ 1 ∷ []) = p .answer-is ∙ sym (gave Tied (worked .5) lent room (Rated 2 2) exit p (2 ∷ 1 ∷ []) refl) in
+    let e : gives (2 ∷ 2 ∷ []) ≡ gives (2 ∷ 1 ∷ []) = p .answer-is ∙ sym (gave Tied (worked .2) lent room (Rated 2 2) exit p (2 ∷ 1 ∷ []) refl) in
     let z : _≡_ {A = ℕ} 2 1 = cc in
     omega arith
 
@@ -44,10 +44,16 @@ not-first-length lent answer exit room p h =
     let e = ap (λ (l : List ℕ). getD l 1 0) (shows A (worked .0) lent room answer exit p (5 ∷ 3 ∷ []) refl) in
     omega (arith, e, h)
 
+-- a planner that counts every packet that touches an interval: list A from 2 to 6 seconds would have 70 bytes in 4 seconds
+not-touching : (lent : List ℕ) (answer : RatesAnswer) (exit : List ℕ) → length lent ≡ 15 → EpochsRated 3 (A .records) lent answer exit → getD exit 4 0 ≡ 35 → ⊥
+not-touching lent answer exit room p h =
+    let e = ap (λ (l : List ℕ). getD l 4 0) (shows A (worked .0) lent room answer exit p (5 ∷ 3 ∷ []) refl) in
+    omega (arith, e, h)
+
 -- a planner that rounds rates up: the first epoch of list D would have 1 byte per second, and not 1/5
 not-rounded-up : (lent : List ℕ) (answer : RatesAnswer) (exit : List ℕ) → length lent ≡ 6 → EpochsRated 2 (D .records) lent answer exit → getD exit 2 0 ≡ 1 → ⊥
 not-rounded-up lent answer exit room p h =
-    let e = ap (λ (l : List ℕ). getD l 2 0) (shows D (worked .2) lent room answer exit p (2 ∷ 2 ∷ []) refl) in
+    let e = ap (λ (l : List ℕ). getD l 2 0) (shows D (worked .1) lent room answer exit p (2 ∷ 2 ∷ []) refl) in
     omega (arith, e, h)
 
 -- a planner that refuses list A

@@ -1,6 +1,6 @@
 -- `planner::plan_packets` meets its contract: the timetable's numbers are copied, and the plan writer is asked for the list's plan (`plan-written`,
 -- `plan-refused`). Assumes nothing.
-use mathlib.Core.Path.{_≡_, refl, sym, ap, _∙_}
+use mathlib.Core.Path.{refl, sym, ap, _∙_}
 use native.Mathlib.Omega.{arith}
 use Rattle.plan.specs.Frame.{frameAnswerOf}
 use Rattle.timetable.proofs.Lists.{timetable}

@@ -1,6 +1,5 @@
 -- `policy::densest::wins` meets its contract: each return goes by the tests that led there. Assumes nothing.
 use Rattle.policy.proofs.Sweeping.{unmarked-loses, empty-loses, first-wins, rule-decides}
-use borrow.Author.Needs.{needs}
 use Rattle.policy.proofs.densest.wins.Statement.{statement}
 use Rattle.policy.proofs.densest.wins.Tie as tie
 

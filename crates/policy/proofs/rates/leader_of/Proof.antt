@@ -1,7 +1,6 @@
 -- `policy::rates::leader_of` meets its contract: what is left is no more than the weights, so that the sums fit. Assumes nothing.
 use native.Mathlib.Omega.{arith}
 use Rattle.policy.proofs.Turning.{left-most, gathered-most, passed-most}
-use borrow.Author.Needs.{needs}
 use Rattle.policy.proofs.rates.leader_of.Statement.{statement}
 use Rattle.policy.proofs.rates.leader_of.Tie as tie
 

@@ -1,6 +1,6 @@
 -- `policy::rates::rates_of` meets its contract. The invariant: what is given is what so many rounds of the definition give. A turn is a round; without a
 -- leader the rounds are over. The measure is the packets less the rounds. Assumes nothing.
-use Prim.Native.Nat.{_-_, _≤_, _<_}
+use Prim.Native.Nat.{_-_, _≤_}
 use mathlib.Core.Path.{_≡_, refl, ap}
 use native.Mathlib.Nat.{pos-of-ne-zero}
 use native.Mathlib.Omega.{arith}

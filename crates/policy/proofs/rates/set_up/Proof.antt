@@ -1,6 +1,5 @@
 -- `policy::rates::set_up` meets its contract: each arrival and each deadline is a point, so that their places are within the arrays. Assumes nothing.
-use Prim.Native.Nat.{ℕ, suc, _<_}
-use lib.ListN.{getD}
+use Prim.Native.Nat.{suc}
 use native.Mathlib.Nat.{le-of-lt}
 use native.Mathlib.Omega.{arith}
 use Rattle.packets.specs.Records.{deadlineOf}

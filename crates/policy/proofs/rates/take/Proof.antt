@@ -1,7 +1,6 @@
 -- `policy::rates::take` meets its contract by what `lowest` and `give` leave. Assumes nothing.
 use native.Mathlib.Omega.{arith}
 use Rattle.policy.proofs.Turning.{shared-at, shared-one-less}
-use borrow.Author.Needs.{needs}
 use Rattle.policy.proofs.rates.take.Statement.{statement}
 use Rattle.policy.proofs.rates.take.Tie as tie
 
