@@ -5,6 +5,7 @@ pub mod packet;
 pub mod points;
 pub mod rates;
 pub mod row;
+pub mod setup;
 pub mod spans;
 
 ghost use mathlib.Core.Path.{_≡_};

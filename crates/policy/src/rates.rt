@@ -5,39 +5,16 @@ ghost use lib.ListN.{length};
 ghost use Rattle.packets.specs.Limits.{mostPackets};
 ghost use Rattle.packets.specs.Records.{Accepted};
 ghost use Rattle.policy.specs.Figures.{mostPoints};
-ghost use Rattle.policy.specs.Steps.{LeaderIs, Rated, Ready, SetUp, Taken};
+ghost use Rattle.policy.specs.Steps.{LeaderIs, Rated, Ready, Taken};
 use crate::densest::Leader;
 use crate::densest::densest;
-use crate::points::event_points;
-use crate::row::by_deadline;
 use crate::row::gather;
-use crate::row::places;
+use crate::setup::set_up;
 use crate::spans::Shares;
-use crate::spans::epoch_spans;
 use crate::spans::give;
 use crate::spans::left_weights;
-use crate::spans::packet_spans;
 use crate::spans::passed_by;
 use fractions::lowest;
-
-// What the rounds work on: n points (seconds), the packets' windows (seconds) and bytes, the epochs' ends and seconds, the places of the arrivals among the
-// points, and the row of the packets by rising deadline with arrivals, deadlines (seconds) and the spots of the deadlines
-// among the points along it.
-pub struct Setup {
-    pub n: usize,
-    pub points: [u64; 128],
-    pub from: [u64; 128],
-    pub till: [u64; 128],
-    pub bytes: [u64; 128],
-    pub ends: [u64; 128],
-    pub seconds: [u64; 128],
-    pub start: [u64; 128],
-    pub row: [u64; 128],
-    pub bounds: [u64; 128],
-    pub arrivals: [u64; 128],
-    pub deadlines: [u64; 128],
-    pub spots: [u64; 128],
-}
 
 // What each packet and each epoch was given.
 pub struct Gifts {
@@ -51,46 +28,6 @@ pub struct Rates {
     pub points: [u64; 128],
     pub gifts: Gifts,
     pub rounds: usize,
-}
-
-// What the rounds of judged packets work on.
-fn set_up(count: usize, records: &[u64]) -> Setup
-    requires { ⌜ Accepted count (now records) ⌝ }
-    ensures { λ r. ⌜ SetUp count (now (records .entry)) (r .n) (r .points) (r .from) (r .till) (r .bytes) (r .ends) (r .seconds) (r .start) (r .row) (r .bounds) (r .arrivals) (r .deadlines) (r .spots) ⌝ }
-{
-    let found = event_points(count, records);
-    let n = found.count;
-    let points = found.at;
-    let packets = packet_spans(count, records);
-    let from = packets.from;
-    let till = packets.till;
-    let bytes = packets.weight;
-    let epochs = epoch_spans(n - 1, points);
-    let ends = epochs.till;
-    let seconds = epochs.weight;
-    let start = places(count, &from, n, &points);
-    let place = places(count, &till, n, &points);
-    let sorted = by_deadline(count, &place, n);
-    let row = sorted.packets;
-    let bounds = sorted.bounds;
-    let arrivals = gather(count, &from, &row);
-    let deadlines = gather(count, &till, &row);
-    let spots = gather(count, &place, &row);
-    Setup {
-        n,
-        points,
-        from,
-        till,
-        bytes,
-        ends,
-        seconds,
-        start,
-        row,
-        bounds,
-        arrivals,
-        deadlines,
-        spots,
-    }
 }
 
 // The rates of judged packets.

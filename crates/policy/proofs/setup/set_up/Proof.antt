@@ -1,4 +1,4 @@
--- `policy::rates::set_up` meets its contract: each arrival and each deadline is a point, so that their places are within the arrays. Assumes nothing.
+-- `policy::setup::set_up` meets its contract: each arrival and each deadline is a point, so that their places are within the arrays. Assumes nothing.
 use Prim.Native.Nat.{suc}
 use native.Mathlib.Nat.{le-of-lt}
 use native.Mathlib.Omega.{arith}
@@ -7,8 +7,8 @@ use Rattle.policy.specs.Points.{packetsOf}
 use Rattle.policy.proofs.EventPoints.{points-deadline}
 use Rattle.policy.proofs.Turning.{epochs-set, points-some, points-most, point-rises, place-found}
 use borrow.Author.Needs.{needs}
-use Rattle.policy.proofs.rates.set_up.Statement.{statement}
-use Rattle.policy.proofs.rates.set_up.Tie as tie
+use Rattle.policy.proofs.setup.set_up.Statement.{statement}
+use Rattle.policy.proofs.setup.set_up.Tie as tie
 
 event-points-requires : tie.Need-event-points-requires
 event-points-requires c κs = search needs
