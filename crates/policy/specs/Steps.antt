@@ -7,22 +7,36 @@ use mathlib.Core.List.{List}
 use lib.ListN.{getD, length, take}
 use lib.Dec.{eqb, leb, ltb}
 use Rattle.packets.specs.Limits.{lastSecond, mostPackets}
-use Rattle.packets.specs.Records.{arrivalOf, deadlineOf}
 use Rattle.fractions.specs.Fraction.{lowestN, lowestD}
 use Rattle.policy.specs.declared.densest.Leader.{Leader}
 use Rattle.policy.specs.Figures.{largestAir, mostPoints}
-use Rattle.policy.specs.Points.{pointsOf, packetsOf}
+use Rattle.policy.specs.Points.{pointsOf, packetsOf, withPoint}
 use Rattle.policy.specs.Rounds.{ahead, outcomeOf}
 use Rattle.policy.specs.Windows.{Windows, Given, none, rate, choose, onlyIf, sum}
 
--- the lower of the best so far and t, which counts from `from` on
-unfoldable pub lower : ℕ → ℕ → ℕ → ℕ
-lower best t from = choose (ltb t from) best (choose (leb best t) best t)
+-- ## The points
 
--- the smallest arrival or deadline of the first n packets from `from` on; a second past the last where there is none
-unfoldable pub nextPoint : ℕ → List ℕ → ℕ → ℕ
-nextPoint zero records from = lastSecond + 1
-nextPoint (suc n) records from = lower (lower (nextPoint n records from) (arrivalOf records n) from) (deadlineOf records n) from
+-- r of the first n points stand before t, and the next, where there is one, does not
+pub record Before (t n : ℕ) (points : List ℕ) (r : ℕ) : Type 0 where
+  pub within : r ≤ n
+  pub below : (k : ℕ) → k < r → getD points k 0 < t
+  pub next : r < n → t ≤ getD points r 0
+
+-- whether t is the point at place k of the first n
+unfoldable pub standsAt : ℕ → ℕ → ℕ → List ℕ → Bool
+standsAt t n k points = ltb k n && eqb (getD points k 0) t
+
+-- from place k on, the first n stand one place further up
+pub record MovedUp (k n : ℕ) (points points' : List ℕ) : Type 0 where
+  pub room : length points' ≡ mostPoints
+  pub below : (i : ℕ) → i < k → getD points' i 0 ≡ getD points i 0
+  pub moved : (i : ℕ) → k ≤ i → i < n → getD points' (suc i) 0 ≡ getD points i 0
+
+-- the first r are the first n with t among them
+pub record Inserted (t n : ℕ) (points points' : List ℕ) (r : ℕ) : Type 0 where
+  pub room : length points' ≡ mostPoints
+  pub is : take r points' ≡ withPoint t (take n points)
+  pub count : r ≡ length (withPoint t (take n points))
 
 -- ## Windows in arrays
 
