@@ -1,5 +1,5 @@
--- The two round trips of a plan: written and read back, the same entries and cost; read and written again, the same bytes. Both stand on the table laws of
--- the bits layer. Assumes nothing.
+-- The two round trips of a plan: written and read back, the same entries and cost; read and written again, the same bytes. Then that what stands behind a
+-- plan has no influence. All stand on the table laws of the bits layer. Assumes nothing.
 use Prim.Native.Nat.{ℕ, zero, suc, _+_, _-_, _*_, _<_, _≤_, _^_}
 use mathlib.Core.Path.{_≡_, refl, sym, ap, subst, _∙_}
 use mathlib.Core.List.{List, [], _∷_, _++_}
@@ -11,7 +11,7 @@ use borrow.Author.Tests.{ne-eqb, le-ltb}
 use Rattle.bits.specs.Field.{fieldAt, Bytes}
 use Rattle.bits.specs.Table.{rows, fieldsAt, fieldWidths, tableBytes, readTable, unusedAt, writeTable, Fit}
 use Rattle.bits.proofs.Fields.{field-lt}
-use Rattle.bits.proofs.Tables.{write-read, length-write, read-write}
+use Rattle.bits.proofs.Tables.{write-read, length-write, read-write, read-front}
 use Rattle.packets.specs.Outcome.{Outcome, gives, refuses, _when_else_, _then_}
 use Rattle.packets.proofs.Outcomes.{passed-then, given-leaves}
 use Rattle.plan.specs.Entries.{mostEntries, entryNumbers, entryWidths, entryTests, fieldOf, Sound}
@@ -205,3 +205,53 @@ module _ (plan lent frame : List ℕ) (small : Bytes plan) (small-frame : Bytes 
           (unfold unusedOn frameBytes in
           (read-write headWidths entryWidths (countOn plan) plan (drop headBytes frame) small small-part (read .whole .held)
           (omega (arith, long, length-drop headBytes frame)) (read .whole .clear)))
+
+-- ---- what stands behind a plan
+
+-- the tests of the bytes ask nothing of them but the count, the unused bits, and that the plan is whole
+wire-same : (a b : List ℕ) → countOn a ≡ countOn b → unusedOn a ≡ unusedOn b
+    → tableBytes headWidths entryWidths (countOn a) ≤ length a → tableBytes headWidths entryWidths (countOn a) ≤ length b → wireTests a ≡ wireTests b
+unfolding wireTests _when_else_
+wire-same a b count unused long-a long-b =
+    let used = plan-bytes-is (countOn a) in
+    let z : length a ≡ 0 → ⊥ = λ (e : length a ≡ 0). omega arith in
+    let y : length b ≡ 0 → ⊥ = λ (e : length b ≡ 0). omega arith in
+    rw (← count, ← unused) (simp (ne-eqb _ _ z, ne-eqb _ _ y, le-ltb _ _ long-a, le-ltb _ _ long-b))
+
+-- bytes that agree as far as a whole plan goes are read alike, and leave the same in the lent entries: nothing behind the plan has any influence
+pub nothing-behind : (a b lent : List ℕ) → tableBytes headWidths entryWidths (countOn a) ≤ length a → tableBytes headWidths entryWidths (countOn a) ≤ length b
+    → take (tableBytes headWidths entryWidths (countOn a)) a ≡ take (tableBytes headWidths entryWidths (countOn a)) b
+    → (readOutcome a (length lent) ≡ readOutcome b (length lent)) × (entriesAfter a lent ≡ entriesAfter b lent)
+nothing-behind a b lent long-a long-b front = (outcome, after)
+  where
+    n : ℕ
+    n = countOn a
+
+    same : (readTable a headWidths entryWidths n ≡ readTable b headWidths entryWidths n)
+        × (unusedAt a headWidths entryWidths n ≡ unusedAt b headWidths entryWidths n)
+    same = read-front headWidths entryWidths n a b front
+
+    both : countOn a ∷ costOn a ∷ fieldsAt a (countWidth + costWidth) (rows n entryWidths)
+        ≡ countOn b ∷ costOn b ∷ fieldsAt b (countWidth + costWidth) (rows n entryWidths)
+    both = sym (table-plan a n) ∙ same .0 ∙ table-plan b n
+
+    count : countOn b ≡ n
+    count = cc both
+
+    cost : costOn a ≡ costOn b
+    cost = cc both
+
+    entries : entriesOn a ≡ entriesOn b
+    entries = (unfold entriesOn in (rw count (ap (drop 2) both)))
+
+    unused : unusedOn a ≡ unusedOn b
+    unused = (unfold unusedOn in (rw count (same .1)))
+
+    wire : wireTests a ≡ wireTests b
+    wire = wire-same a b (sym count) unused long-a long-b
+
+    outcome : readOutcome a (length lent) ≡ readOutcome b (length lent)
+    outcome = (unfold readOutcome roomTest in (rw (wire, entries, count, cost)))
+
+    after : entriesAfter a lent ≡ entriesAfter b lent
+    after = (unfold entriesAfter in (rw (outcome, entries)))
