@@ -6,7 +6,8 @@ use native.Mathlib.Omega.{arith}
 use lib.ListN.{getD, length}
 use Rattle.bits.specs.Field.{digit, bit, spelt, fieldAt, bytesFrom, replaced, putField}
 use Rattle.bits.specs.Table.{total, rows, fieldsAt, putFields, fieldWidths, tableWidths, tableBytes, unusedAt, writeTable}
-use Rattle.packets.specs.declared.refusal.Refusal.the-variants.{NoRoom, Deadline}
+use Rattle.packets.specs.declared.refusal.Refusal.{Refusal}
+use Rattle.packets.specs.declared.refusal.Refusal.the-variants.{Deadline}
 use Rattle.packets.specs.declared.judge.Verdict.the-variants.{Refused}
 use Rattle.packets.specs.declared.list.ListAnswer.{ListAnswer}
 use Rattle.packets.specs.declared.list.ListAnswer.the-variants as list-answer
@@ -14,6 +15,7 @@ use Rattle.packets.specs.declared.list.WrittenAnswer.{WrittenAnswer}
 use Rattle.packets.specs.Outcome.{verdictOf, _when_else_, _then_, inOrder, _given_else_}
 use Rattle.packets.specs.Records.{sizeOf, arrivalOf, deadlineOf, recordTest, recordAt, recordTests, memoryTests}
 use Rattle.packets.specs.List.{listBytes, countOn, recordsOn, unusedOn, wireTests, roomTest, readOutcome, recordsAfter, restAfter, writeOutcome, bytesAfter, ListJudged, ListRead, ListWritten}
+use Rattle.packets.proofs.Answers.{refusal-gives}
 
 -- list B: one packet of 1 byte, from 0 to 1 seconds; then with one byte behind it, and with a nonzero unused bit
 abbrev listB : List ℕ
@@ -35,10 +37,15 @@ not-unused-bit : (count bytes : ℕ) → ListJudged faultyB 3 (list-answer.Packe
 unfolding digit bit spelt fieldAt total rows fieldsAt fieldWidths tableBytes unusedAt _when_else_ _then_ recordTest recordAt recordTests inOrder listBytes countOn recordsOn unusedOn wireTests roomTest readOutcome
 not-unused-bit count bytes e = let z : _≡_ {A = ℕ} 0 1 = cc in omega arith
 
--- a reader that refuses everything
-not-always-refused : ListJudged listB 3 (list-answer.Refused NoRoom) → ⊥
+-- a reader that refuses everything, whatever its refusal
+not-always-refused : (refusal : Refusal) → ListJudged listB 3 (list-answer.Refused refusal) → ⊥
 unfolding digit bit spelt fieldAt total rows fieldsAt fieldWidths tableBytes unusedAt _when_else_ _then_ sizeOf arrivalOf deadlineOf recordTest recordAt recordTests inOrder listBytes countOn recordsOn unusedOn wireTests roomTest readOutcome
-not-always-refused e = let z : _≡_ {A = ℕ} 0 1 = cc in omega arith
+not-always-refused refusal e = refusal-gives refusal (1 ∷ 8 ∷ []) e
+
+-- a reader that writes nothing
+read-not-nothing : (rest : List ℕ) → ListRead listB (9 ∷ 9 ∷ 9 ∷ []) rest (9 ∷ 9 ∷ 9 ∷ []) → ⊥
+unfolding digit bit spelt fieldAt total rows fieldsAt fieldWidths tableBytes unusedAt _when_else_ _then_ _given_else_ sizeOf arrivalOf deadlineOf recordTest recordAt recordTests inOrder listBytes countOn recordsOn unusedOn wireTests roomTest readOutcome recordsAfter restAfter
+read-not-nothing rest p = let z : _≡_ {A = ℕ} 9 1 = ap (λ (l : List ℕ). getD l 0 0) (p .1) in omega arith
 
 -- a reader that writes a record before it refuses: there is room for two numbers, and the first is changed
 not-scribbled : (rest : List ℕ) → ListRead listB (9 ∷ 9 ∷ []) rest (1 ∷ 9 ∷ []) → ⊥

@@ -7,6 +7,8 @@ use mathlib.Core.List.{List, [], _∷_}
 use Rattle.packets.specs.Limits.{airBytes}
 use Rattle.packets.specs.Outcome.{_given_else_, _then_, _when_else_, inOrder}
 use Rattle.packets.specs.Records.{arrivalOf, deadlineOf, memoryTests, recordAt, recordTest, recordTests, sizeOf}
+use Rattle.packets.specs.declared.refusal.Refusal.{Refusal}
+use Rattle.packets.proofs.Answers.{refusal-gives}
 use Rattle.fractions.specs.Fraction.{euclid, gcd, lowestN, lowestD}
 use Rattle.policy.specs.Windows.{assign, choose, inside, left, onlyIf, sum, unassigned}
 use Rattle.policy.specs.Points.{epochsOf, packetsOf, pointsOf, withPoint}
@@ -17,7 +19,7 @@ use Rattle.timetable.specs.Setting.{setting}
 use Rattle.timetable.specs.Entries.{begun, candidate, earliest, eligible, entriesOf, filled, less, nextIn, numbersOf, sent, sheetAt, sooner, turnOf, turns, unitsIn, unitsOf}
 use Rattle.timetable.specs.Costs.{costOf, radioCost}
 use Rattle.timetable.specs.declared.TimetableAnswer.{TimetableAnswer}
-use Rattle.timetable.specs.declared.TimetableAnswer.the-variants.{Made}
+use Rattle.timetable.specs.declared.TimetableAnswer.the-variants.{Made, Refused}
 use Rattle.timetable.specs.Answer.{Timetabled, entriesAfter, timetablesOutcome}
 
 -- room for three entries
@@ -56,3 +58,13 @@ unfolding airBytes sizeOf arrivalOf deadlineOf euclid gcd lowestN lowestD assign
 not-before-arrival answer exit p early =
     let z : _≡_ {A = ℕ} 1 0 = sym early ∙ ap (λ (l : List ℕ). getD l 0 0) (p .exit-is) in
     omega arith
+
+-- one that refuses everything, whatever its refusal
+not-refused : (refusal : Refusal) (exit : List ℕ) → Timetabled 1 uneven room (Refused refusal) exit → ⊥
+unfolding airBytes sizeOf arrivalOf deadlineOf euclid gcd lowestN lowestD assign choose inside left onlyIf sum unassigned epochsOf packetsOf pointsOf withPoint after atFirst beats bestFrom bestOf better dayOf giveRate leads len load outcomeOf pick round roundOf taken carries priceOf priced epochCount shownD setting begun candidate earliest eligible entriesOf filled less nextIn numbersOf sent sheetAt sooner turnOf turns unitsIn unitsOf costOf radioCost _when_else_ _then_ _given_else_ inOrder memoryTests recordAt recordTest recordTests timetablesOutcome
+not-refused refusal exit p = refusal-gives refusal (1 ∷ 1 ∷ 27 ∷ []) (p .answer-is)
+
+-- one that writes nothing: the first entry's R is 3 (bytes per second), and the room had 0 there
+not-nothing : (answer : TimetableAnswer) → Timetabled 1 uneven room answer room → ⊥
+unfolding airBytes sizeOf arrivalOf deadlineOf euclid gcd lowestN lowestD assign choose inside left onlyIf sum unassigned epochsOf packetsOf pointsOf withPoint after atFirst beats bestFrom bestOf better dayOf giveRate leads len load outcomeOf pick round roundOf taken carries priceOf priced epochCount shownD setting begun candidate earliest eligible entriesOf filled less nextIn numbersOf sent sheetAt sooner turnOf turns unitsIn unitsOf costOf radioCost _when_else_ _then_ _given_else_ inOrder memoryTests recordAt recordTest recordTests timetablesOutcome entriesAfter overwritten
+not-nothing answer p = let z : _≡_ {A = ℕ} 0 3 = ap (λ (l : List ℕ). getD l 2 0) (p .exit-is) in omega arith
