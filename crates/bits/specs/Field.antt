@@ -28,6 +28,7 @@ unfoldable pub bytesFrom : ℕ → ℕ → (ℕ → ℕ) → List ℕ
 bytesFrom zero p f = []
 bytesFrom (suc n) p f = spelt f p 8 ∷ bytesFrom n (p + 8) f
 
+-- the first where the test holds, and the second where it does not
 abbrev pub pick : Bool → ℕ → ℕ → ℕ
 pick true a b = a
 pick false a b = b

@@ -1,5 +1,5 @@
 -- Packets in memory, and the tests of their records (document 01, "Figures and their units" and "Refusal numbers and their order").
--- Packets are numbered from 0 packets. A packet's record is three numbers of the lent list: its size (bytes), its arrival (seconds) and its
+-- Packets are numbered from 0. A packet's record is three numbers of the lent list: its size (bytes), its arrival (seconds) and its
 -- deadline (seconds). Assumes nothing.
 use Prim.Native.Nat.{ℕ, _+_, _*_, _<_, _≤_}
 use mathlib.Core.List.{List, []}
