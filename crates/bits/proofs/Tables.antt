@@ -51,12 +51,6 @@ fields-same a b p (w ∷ widths) same =
     (field-same a b p w (λ i lo hi. same i lo (omega arith)))
     (fields-same a b (p + w) widths (λ i lo hi. same i (omega arith) (omega arith)))
 
--- each value that is read fits its width
-pub fields-fit : (bytes : List ℕ) (p : ℕ) (widths : List ℕ) → Fit widths (fieldsAt bytes p widths)
-unfolding fieldsAt
-fields-fit bytes p [] = tt
-fields-fit bytes p (w ∷ widths) = (field-lt bytes p w, fields-fit bytes (p + w) widths)
-
 pub length-put-fields : (bytes : List ℕ) (p : ℕ) (widths values : List ℕ) → length (putFields bytes p widths values) ≡ length bytes
 unfolding putFields
 length-put-fields bytes p [] values = refl
