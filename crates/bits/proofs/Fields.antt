@@ -2,17 +2,15 @@
 -- Assumes nothing.
 use Prim.Native.Nat.{ℕ, zero, suc, _+_, _-_, _*_, _/_, _%_, _^_, _<_, _≤_}
 use mathlib.Core.Path.{_≡_, refl, sym, ap, ap₂, _∙_}
-use mathlib.Core.List.{List, [], _∷_}
-use mathlib.Core.Bool.{Bool, true, false, _&&_}
+use mathlib.Core.List.{List, _∷_}
 use native.Mathlib.Omega.{arith}
 use native.Mathlib.Nat.{zero-add, mod-eq-of-lt}
 use native.Mathlib.Decide.{decLe}
-use lib.ListN.{length, getD, take, drop, set}
+use lib.ListN.{length, getD}
 use lib.Seq.{ext-getD}
-use lib.Dec.{leb, ltb}
 use borrow.Author.Tests.{le-leb, lt-leb, lt-ltb, le-ltb}
 use Rattle.bits.specs.Field.{digit, bit, spelt, fieldAt, bytesFrom, replaced, putField, Bytes}
-use Rattle.bits.proofs.Digits.{digit-lt, digit-spelt, spelt-lt, spelt-add, spelt-same, spelt-digits, digit-shift}
+use Rattle.bits.proofs.Digits.{digit-lt, digit-spelt, spelt-lt, spelt-add, spelt-same, spelt-digits}
 
 -- ---- rows of bytes and their bits
 

@@ -1,7 +1,7 @@
 -- A field a byte at a time: what of it stands in one byte, and what one byte becomes. Position p is bit p % 8 of byte p / 8; the piece of k bits
 -- there leaves 8 - p % 8 - k bits of the byte below it. Assumes nothing.
-use Prim.Native.Nat.{ℕ, zero, suc, _+_, _-_, _*_, _/_, _%_, _^_, _<_, _≤_}
-use mathlib.Core.Path.{_≡_, refl, sym, ap, _∙_}
+use Prim.Native.Nat.{ℕ, _+_, _-_, _*_, _/_, _%_, _^_, _<_, _≤_}
+use mathlib.Core.Path.{_≡_, sym, ap, _∙_}
 use mathlib.Core.List.{List}
 use native.Mathlib.Omega.{arith}
 use native.Mathlib.Nat.{mod-lt, mul-le-mul-left, mul-le-mul-right, lt-of-lt-of-le}

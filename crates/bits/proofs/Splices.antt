@@ -1,11 +1,11 @@
 -- The front of one row of bytes before the back of another: the first n bytes are the one's, the others the other's. Assumes nothing.
 use Prim.Native.Nat.{ℕ, _+_, _-_, _*_, _/_, _<_, _≤_}
-use mathlib.Core.Path.{_≡_, refl, sym, ap, _∙_}
+use mathlib.Core.Path.{_≡_, sym, ap, _∙_}
 use mathlib.Core.List.{List, _++_}
 use native.Mathlib.Omega.{arith}
 use native.Mathlib.Decide.{decLe}
 use lib.ListN.{length, getD, take, drop, length-append, length-drop, List·getD-append}
-use lib.Seq.{length-take-le, getD-take, getD-drop, getD-append-add, drop-at, take-at}
+use lib.Seq.{length-take-le, getD-take, getD-drop, getD-append-add, drop-at}
 use Rattle.bits.specs.Field.{bit, Bytes}
 use Rattle.bits.proofs.Fields.{same-bits}
 

@@ -1,17 +1,17 @@
 -- Laws of tables, over any widths: what is written is read back, and what is read is written again. Both go field by field. Assumes nothing.
-use Prim.Native.Nat.{ℕ, zero, suc, _+_, _-_, _*_, _/_, _%_, _^_, _<_, _≤_}
+use Prim.Native.Nat.{ℕ, zero, suc, _+_, _-_, _*_, _%_, _<_, _≤_}
 use mathlib.Core.Path.{_≡_, refl, sym, ap, ap₂, _∙_}
-use mathlib.Core.List.{List, [], _∷_, _++_, append-nil}
+use mathlib.Core.List.{List, [], _∷_, _++_}
 use native.Mathlib.Omega.{arith}
 use native.Mathlib.Nat.{add-zero, zero-add, add-assoc}
 use native.Mathlib.Decide.{decLe}
-use lib.ListN.{length, getD, take, drop, set, length-append, length-drop}
-use lib.Seq.{sets, drop-cons, take-at, getD-at}
+use lib.ListN.{length, getD, take, drop, length-append}
+use lib.Seq.{take-at, getD-at}
 use lib.Pow.{pow-pos}
-use Rattle.bits.specs.Field.{digit, bit, fieldAt, putField, Bytes}
-use Rattle.bits.specs.Table.{total, rows, fieldsAt, putFields, bytesFor, unusedBits, fieldWidths, tableWidths, tableBytes, readTable, unusedAt, writeTable, Fit}
+use Rattle.bits.specs.Field.{bit, fieldAt, putField, Bytes}
+use Rattle.bits.specs.Table.{total, rows, fieldsAt, putFields, unusedBits, fieldWidths, tableWidths, tableBytes, readTable, unusedAt, writeTable, Fit}
 use Rattle.bits.proofs.Splices.{splice-low, splice-high, splice-bytes, length-splice, same-back, same-front}
-use Rattle.bits.proofs.Fields.{bit-inside, bit-before, bit-behind, length-put, put-bytes, put-get, field-lt, field-same, digit-field, same-bits}
+use Rattle.bits.proofs.Fields.{bit-inside, bit-before, bit-behind, length-put, put-bytes, put-get, field-same, digit-field, same-bits}
 
 -- ---- widths
 

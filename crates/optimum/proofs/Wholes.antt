@@ -1,10 +1,10 @@
 -- Demand 3 of the whole call. What the reader reads back is the entries of the list (`plan-reads`), and the list is accepted; so this is demand 3 of the list.
 -- Assumes nothing.
-use Prim.Native.Nat.{ℕ, zero, suc, _+_, _-_, _*_, _<_, _≤_}
+use Prim.Native.Nat.{ℕ, _*_, _≤_}
 use mathlib.Core.Path.{_≡_, refl, sym, ap, subst, _∙_}
 use mathlib.Core.List.{List, [], _∷_, _++_}
 use native.Mathlib.Omega.{arith}
-use lib.ListN.{length, drop, getD}
+use lib.ListN.{length, drop}
 use Rattle.packets.specs.Outcome.{gives}
 use Rattle.packets.specs.Limits.{airBytes}
 use Rattle.packets.specs.Records.{sizeOf}
@@ -15,11 +15,11 @@ use Rattle.timetable.specs.Right.{Each}
 use Rattle.timetable.proofs.Lists.{timetable}
 use Rattle.plan.specs.Entries.{entryNumbers}
 use Rattle.plan.specs.Frame.{planOn, readOutcome, entriesAfter}
-use Rattle.planner.specs.Whole.{planNumbers, planOutcome, frameAfter}
+use Rattle.planner.specs.Whole.{planNumbers, frameAfter}
 use Rattle.planner.proofs.Reading.{Plans, plans, plan-reads}
 use Rattle.optimum.specs.Rival.{Fraction, whole, Equal}
 use Rattle.optimum.specs.Optimum.{Optimum, bytesIn, allUnits, InWindow}
-use Rattle.optimum.specs.Whole.{entriesSaid, PlanFor, WholeOptimum}
+use Rattle.optimum.specs.Whole.{entriesSaid, WholeOptimum}
 use Rattle.optimum.proofs.Lists.{optimum}
 
 -- an entry as a plan says it

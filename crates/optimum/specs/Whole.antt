@@ -1,6 +1,6 @@
 -- Demand 3 of the whole call: what the plan reader reads from a frame that the call filled sends the list's packets whole inside their windows, and the cost that
 -- stands in the frame is below every rival's and the price of the rounding. Costs are bytes per second, squared, times seconds. Assumes nothing.
-use Prim.Native.Nat.{ℕ, zero, suc, _+_, _*_, _<_}
+use Prim.Native.Nat.{ℕ, zero, suc, _*_, _<_}
 use mathlib.Core.Path.{_≡_}
 use mathlib.Core.List.{List, [], _∷_}
 use lib.ListN.{length, drop, getD}

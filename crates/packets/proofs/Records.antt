@@ -8,7 +8,7 @@ use lib.Seq.{sets, sets-eq}
 use lib.Dec.{eqb, ltb, leb}
 use borrow.Author.Tests.{eqb-false, ltb-false, leb-false, ne-eqb, le-ltb, lt-leb}
 use Rattle.packets.specs.Limits.{mostPackets, largestSize, lastSecond}
-use Rattle.packets.specs.Outcome.{Outcome, gives, refuses, _when_else_, inOrder}
+use Rattle.packets.specs.Outcome.{gives, _when_else_}
 use Rattle.packets.specs.Records.{sizeOf, arrivalOf, deadlineOf, recordTest, recordAt, recordTests, memoryTests, recordNumbers, Sound, Accepted}
 use Rattle.packets.proofs.Outcomes.{when-gives, in-order-same, in-order-pass, in-order-each}
 

@@ -1,23 +1,21 @@
 -- The two round trips of a list: written and read back, the same packets; read and written again, the same bytes. Both stand on the table laws of the
 -- bits layer. Assumes nothing.
-use Prim.Native.Nat.{ℕ, zero, suc, _+_, _*_, _<_, _≤_, _^_}
+use Prim.Native.Nat.{ℕ, zero, suc, _+_, _*_, _<_, _≤_}
 use mathlib.Core.Path.{_≡_, refl, sym, ap, subst, _∙_}
 use mathlib.Core.List.{List, [], _∷_, _++_}
 use native.Mathlib.Omega.{arith}
-use native.Mathlib.Nat.{add-zero}
 use lib.ListN.{length, getD, take, drop, length-append, take-append-drop}
 use lib.Seq.{drop-cons, take-at, length-take-le}
-use borrow.Author.Tests.{ne-eqb, le-ltb, lt-ltb}
-use Rattle.bits.specs.Field.{fieldAt, Bytes}
-use Rattle.bits.specs.Table.{rows, fieldsAt, fieldWidths, tableBytes, readTable, unusedAt, writeTable, Fit}
+use borrow.Author.Tests.{ne-eqb, le-ltb}
+use Rattle.bits.specs.Field.{Bytes}
+use Rattle.bits.specs.Table.{rows, fieldsAt, fieldWidths, readTable, unusedAt, writeTable, Fit}
 use Rattle.bits.proofs.Tables.{write-read, length-write, write-behind, read-write, read-front}
-use Rattle.packets.specs.Limits.{mostPackets}
-use Rattle.packets.specs.Outcome.{Outcome, gives, refuses, _when_else_, _then_}
+use Rattle.packets.specs.Outcome.{gives, _when_else_}
 use Rattle.packets.specs.Records.{recordNumbers, sizeOf, arrivalOf, deadlineOf, recordTests, memoryTests, Sound, Accepted}
 use Rattle.packets.specs.List.{countWidth, recordWidths, listBytes, countOn, recordsOn, unusedOn, wireTests, roomTest, readOutcome, recordsAfter, restAfter, writeOutcome, bytesAfter}
 use Rattle.packets.proofs.Outcomes.{passed-then, given-leaves}
-use Rattle.packets.proofs.Records.{tests-past, records-sound, memory-accepted, accepted-memory}
-use Rattle.packets.proofs.Lists.{Whole, Readable, read-readable, read-leaves, list-bytes-is, length-records, write-gives}
+use Rattle.packets.proofs.Records.{tests-past, records-sound, accepted-memory}
+use Rattle.packets.proofs.Lists.{Readable, read-readable, list-bytes-is, length-records, write-gives}
 
 -- ---- written and read back
 

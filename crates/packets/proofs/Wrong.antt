@@ -1,6 +1,6 @@
 -- Answers of wrong programs that the promises do not admit, each refuted on one small input. Assumes nothing.
 use Prim.Native.Nat.{ℕ}
-use mathlib.Core.Path.{_≡_, sym, ap, _∙_}
+use mathlib.Core.Path.{_≡_, ap}
 use mathlib.Core.List.{List, [], _∷_}
 use native.Mathlib.Omega.{arith}
 use lib.ListN.{getD, length}
@@ -9,7 +9,6 @@ use Rattle.bits.specs.Table.{total, rows, fieldsAt, putFields, fieldWidths, tab
 use Rattle.packets.specs.declared.refusal.Refusal.{Refusal}
 use Rattle.packets.specs.declared.refusal.Refusal.the-variants.{Deadline}
 use Rattle.packets.specs.declared.judge.Verdict.the-variants.{Refused}
-use Rattle.packets.specs.declared.list.ListAnswer.{ListAnswer}
 use Rattle.packets.specs.declared.list.ListAnswer.the-variants as list-answer
 use Rattle.packets.specs.declared.list.WrittenAnswer.{WrittenAnswer}
 use Rattle.packets.specs.Outcome.{verdictOf, _when_else_, _then_, inOrder, _given_else_}

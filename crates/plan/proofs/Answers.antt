@@ -1,7 +1,7 @@
 -- Each promise admits one answer only: an answer is known by its number and values, and what is left in a lent buffer is stated as an equation.
 -- Assumes nothing.
 use Prim.Native.Nat.{ℕ}
-use mathlib.Core.Path.{_≡_, refl, sym, ap, _∙_}
+use mathlib.Core.Path.{_≡_, sym, ap, _∙_}
 use mathlib.Core.List.{List}
 use Rattle.packets.proofs.Answers.{refusal-one, refusal-gives}
 use Rattle.plan.specs.declared.frame.ReadAnswer.{ReadAnswer}

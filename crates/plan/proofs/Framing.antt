@@ -4,14 +4,14 @@ use mathlib.Core.Path.{_≡_, refl, sym, ap, _∙_}
 use mathlib.Core.List.{List, [], _∷_, _++_, append-nil}
 use native.Mathlib.Omega.{arith}
 use native.Mathlib.Nat.{zero-add}
-use lib.ListN.{length, getD, take, drop, length-drop, drop-of-length-le}
+use lib.ListN.{length, take, drop, length-drop, drop-of-length-le}
 use lib.Seq.{sets, sets-eq, take-all}
 use lib.Dec.{eqb, ltb, leb}
 use borrow.Author.Tests.{eqb-false, ltb-false, leb-false, eq-eqb, ne-eqb, lt-ltb, le-ltb, lt-leb}
 use Rattle.bits.specs.Field.{fieldAt}
 use Rattle.bits.specs.Table.{total, rows, fieldsAt, unusedBits, fieldWidths, tableBytes, unusedAt, writeTable, AtMost}
 use Rattle.bits.proofs.Tables.{total-rows, length-rows, length-fields}
-use Rattle.packets.specs.Outcome.{Outcome, gives, refuses, _when_else_, _then_, refusalOf}
+use Rattle.packets.specs.Outcome.{gives, _when_else_, refusalOf}
 use Rattle.packets.specs.declared.refusal.Refusal.{Refusal}
 use Rattle.packets.specs.declared.refusal.Refusal.the-variants.{Short, NoRoom}
 use Rattle.packets.proofs.Outcomes.{when-gives, then-gives, refused-then, passed-then, given-leaves, refused-leaves}

@@ -1,6 +1,6 @@
 -- Laws of the tests of entries: what passing them means, and how far they look. Assumes nothing.
 use Prim.Native.Nat.{ℕ, _+_, _*_, _<_, _≤_, _^_}
-use mathlib.Core.Path.{_≡_, refl, sym, ap, _∙_}
+use mathlib.Core.Path.{_≡_, refl, ap, _∙_}
 use mathlib.Core.List.{List, [], _++_}
 use native.Mathlib.Omega.{arith}
 use native.Mathlib.Nat.{add-zero}
@@ -9,7 +9,7 @@ use lib.Seq.{sets, sets-eq}
 use lib.Dec.{eqb, ltb, leb}
 use borrow.Author.Tests.{eqb-false, ltb-false, leb-false, ne-eqb, le-ltb, lt-leb}
 use Rattle.packets.specs.Limits.{lastSecond}
-use Rattle.packets.specs.Outcome.{Outcome, gives, refuses, _when_else_, inOrder}
+use Rattle.packets.specs.Outcome.{gives, _when_else_}
 use Rattle.packets.proofs.Outcomes.{when-gives, in-order-same, in-order-pass, in-order-each}
 use Rattle.plan.specs.Entries.{entryNumbers, fieldOf, entryTest, entryAt, entryTests, Sound}
 

@@ -1,6 +1,6 @@
 -- The two round trips of a plan: written and read back, the same entries and cost; read and written again, the same bytes. Then that what stands behind a
 -- plan has no influence. All stand on the table laws of the bits layer. Assumes nothing.
-use Prim.Native.Nat.{ℕ, zero, suc, _+_, _-_, _*_, _<_, _≤_, _^_}
+use Prim.Native.Nat.{ℕ, zero, suc, _+_, _*_, _<_, _≤_}
 use mathlib.Core.Path.{_≡_, refl, sym, ap, subst, _∙_}
 use mathlib.Core.List.{List, [], _∷_, _++_}
 use native.Mathlib.Omega.{arith}
@@ -8,16 +8,16 @@ use native.Mathlib.Nat.{add-zero}
 use lib.ListN.{length, getD, take, drop, length-append, length-drop, take-append-drop}
 use lib.Seq.{drop-cons, take-at, drop-at, getD-drop, length-take-le}
 use borrow.Author.Tests.{ne-eqb, le-ltb}
-use Rattle.bits.specs.Field.{fieldAt, Bytes}
+use Rattle.bits.specs.Field.{Bytes}
 use Rattle.bits.specs.Table.{rows, fieldsAt, fieldWidths, tableBytes, readTable, unusedAt, writeTable, Fit}
 use Rattle.bits.proofs.Fields.{field-lt}
 use Rattle.bits.proofs.Tables.{write-read, length-write, read-write, read-front}
-use Rattle.packets.specs.Outcome.{Outcome, gives, refuses, _when_else_, _then_}
+use Rattle.packets.specs.Outcome.{gives, _when_else_}
 use Rattle.packets.proofs.Outcomes.{passed-then, given-leaves}
-use Rattle.plan.specs.Entries.{mostEntries, entryNumbers, entryWidths, entryTests, fieldOf, Sound}
-use Rattle.plan.specs.Frame.{headBytes, countWidth, costWidth, headWidths, frameBytes, countOn, costOn, entriesOn, unusedOn, wireTests, roomTest, readOutcome, entriesAfter, memoryTests, writeOutcome, framed, frameAfter}
+use Rattle.plan.specs.Entries.{entryNumbers, entryWidths, entryTests}
+use Rattle.plan.specs.Frame.{headBytes, countWidth, costWidth, headWidths, frameBytes, countOn, costOn, entriesOn, unusedOn, wireTests, roomTest, readOutcome, entriesAfter, writeOutcome, framed, frameAfter}
 use Rattle.plan.proofs.Judging.{SoundAt, entries-sound, tests-past}
-use Rattle.plan.proofs.Framing.{Whole, Readable, read-readable, plan-bytes-is, length-entries, Fitting, fitting-memory, write-gives}
+use Rattle.plan.proofs.Framing.{Readable, read-readable, plan-bytes-is, length-entries, Fitting, fitting-memory, write-gives}
 
 -- ---- written and read back
 

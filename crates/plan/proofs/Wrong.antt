@@ -1,9 +1,9 @@
 -- Answers of wrong programs that the promises do not admit, each refuted on one plan of one entry. Assumes nothing.
 use Prim.Native.Nat.{ℕ}
-use mathlib.Core.Path.{_≡_, refl, sym, ap, _∙_}
+use mathlib.Core.Path.{_≡_, ap}
 use mathlib.Core.List.{List, [], _∷_}
 use native.Mathlib.Omega.{arith}
-use lib.ListN.{getD, length}
+use lib.ListN.{getD}
 use Rattle.bits.specs.Field.{digit, bit, spelt, fieldAt, bytesFrom, replaced, putField}
 use Rattle.bits.specs.Table.{total, rows, fieldsAt, putFields, fieldWidths, tableWidths, tableBytes, unusedAt, writeTable}
 use Rattle.packets.specs.Outcome.{gives, _when_else_, _then_, inOrder, _given_else_}

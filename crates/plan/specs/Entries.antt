@@ -2,7 +2,7 @@
 -- the epoch's start (seconds), R (bytes per second), D, and the offsets from and to (units of 1/D byte). Assumes nothing.
 use Prim.Native.Nat.{ℕ, _+_, _*_, _^_, _<_, _≤_}
 use mathlib.Core.List.{List, [], _∷_}
-use lib.ListN.{length, getD}
+use lib.ListN.{getD}
 use lib.Dec.{eqb, ltb, leb}
 use Rattle.packets.specs.Limits.{lastSecond}
 use Rattle.packets.specs.Outcome.{Outcome, gives, refuses, _when_else_, inOrder}

@@ -1,16 +1,15 @@
 // The plan in a lent frame: entries and cost in memory into the frame from byte 8 on, and back into lent entries.
 // What each call comes to, and what it leaves in every lent buffer, is said by specs/Frame.antt.
 ghost use mathlib.Core.Path.{_≡_};
-ghost use Prim.Native.Nat.{_+_, _*_, _<_, _≤_, _^_};
+ghost use Prim.Native.Nat.{_+_, _*_, _<_, _≤_};
 ghost use lib.ListN.{length};
 ghost use Rattle.bits.specs.Table.{rows, fieldsAt, tableBytes};
 ghost use Rattle.packets.specs.Outcome.{verdictOf};
-ghost use Rattle.plan.specs.Entries.{mostEntries, entryNumbers, entryWidths, entryTests};
+ghost use Rattle.plan.specs.Entries.{mostEntries, entryWidths, entryTests};
 ghost use Rattle.plan.specs.Frame.{
   headWidths,
   frameBytes,
   countOn,
-  costOn,
   wireTests,
   readOutcome,
   entriesAfter,

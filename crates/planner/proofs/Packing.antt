@@ -1,6 +1,6 @@
 -- The whole call, step by step: the timetable of accepted packets goes to the plan writer, which can refuse it only for the room (`Passing`); a list that is
 -- read gives accepted packets, and one that is refused is refused as it is. Assumes nothing.
-use Prim.Native.Nat.{ℕ, _+_, _*_, _<_, _≤_}
+use Prim.Native.Nat.{ℕ, _+_, _*_, _≤_}
 use mathlib.Core.Path.{_≡_, refl, sym, ap, subst, _∙_}
 use mathlib.Core.Bool.{Bool, true, false}
 use mathlib.Core.List.{List, [], _∷_, _++_}
@@ -8,11 +8,11 @@ use native.Mathlib.Omega.{arith}
 use lib.ListN.{length, take, drop, take-append-drop}
 use lib.Seq.{sets, sets-eq, take-at, take-all}
 use lib.Dec.{ltb}
-use Rattle.packets.specs.Outcome.{Outcome, gives, refuses, _when_else_, _then_, _given_else_, refusalOf}
+use Rattle.packets.specs.Outcome.{Outcome, gives, refuses, _when_else_, _given_else_, refusalOf}
 use Rattle.packets.specs.declared.refusal.Refusal.{Refusal}
 use Rattle.packets.specs.Limits.{mostPackets}
 use Rattle.packets.specs.Records.{Accepted, recordNumbers}
-use Rattle.packets.specs.List.{countOn, recordsOn, wireTests}
+use Rattle.packets.specs.List.{countOn, recordsOn}
 use Rattle.packets.specs.List as list
 use Rattle.packets.proofs.Outcomes.{passed-then, given-leaves, refused-leaves}
 use Rattle.packets.proofs.Answers.{refusal-gives}

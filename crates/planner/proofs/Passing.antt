@@ -1,19 +1,17 @@
 -- A plan made here is never refused by the plan writer for its entries or its cost: the entries of accepted packets are 1 to 191, each passes the tests of an
 -- entry, and the radio cost fits. Assumes nothing.
-use Prim.Native.Nat.{ℕ, zero, suc, _+_, _-_, _*_, _<_, _≤_, _^_}
-use mathlib.Core.Path.{_≡_, refl, sym, ap, subst, _∙_}
+use Prim.Native.Nat.{ℕ, zero, suc, _+_, _*_, _<_, _≤_, _^_}
+use mathlib.Core.Path.{_≡_, refl, ap, subst, _∙_}
 use mathlib.Core.List.{List, [], _∷_, _++_}
 use native.Mathlib.Omega.{arith}
-use native.Mathlib.Nat.{add-zero}
-use lib.ListN.{length, getD, take, drop, length-append}
-use Rattle.packets.specs.Outcome.{gives}
+use lib.ListN.{length, length-append}
 use Rattle.packets.specs.Records.{Accepted}
 use Rattle.timetable.specs.Entries.{Entry, entriesOf, numbersOf}
 use Rattle.timetable.specs.Right.{Each, Figured}
 use Rattle.timetable.specs.Costs.{costOf}
 use Rattle.timetable.proofs.Lists.{timetable, figured}
 use Rattle.timetable.proofs.Costs.{cost-fits}
-use Rattle.plan.specs.Entries.{entryNumbers, entryTests, fieldOf, Sound}
+use Rattle.plan.specs.Entries.{entryNumbers, fieldOf}
 use Rattle.plan.proofs.Judging.{SoundAt, sound-entries, tests-past}
 use Rattle.plan.proofs.Framing.{Fitting}
 use Rattle.planner.specs.Rows.{sixes}

@@ -1,24 +1,23 @@
 -- What the plan reader reads from a frame that the whole call filled: the entries of the list and their cost. Assumes nothing.
-use Prim.Native.Nat.{ℕ, _+_, _*_, _<_, _≤_}
+use Prim.Native.Nat.{ℕ, _*_, _≤_}
 use mathlib.Core.Path.{_≡_, refl, sym, ap, subst, _∙_}
-use mathlib.Core.Bool.{Bool, true, false}
 use mathlib.Core.List.{List, [], _∷_, _++_, append-nil}
 use native.Mathlib.Omega.{arith}
 use lib.ListN.{length, take, drop}
 use lib.Seq.{take-all}
 use lib.Dec.{ltb}
 use borrow.Author.Tests.{ltb-false}
-use Rattle.packets.specs.Outcome.{Outcome, gives, refuses}
-use Rattle.packets.specs.Records.{Accepted, recordNumbers, recordTests}
-use Rattle.packets.specs.List.{countOn, recordsOn, wireTests, listBytes}
-use Rattle.packets.proofs.Outcomes.{passed-then, then-gives, when-gives, given-leaves}
+use Rattle.packets.specs.Outcome.{gives}
+use Rattle.packets.specs.Records.{Accepted, recordTests}
+use Rattle.packets.specs.List.{countOn, recordsOn, wireTests}
+use Rattle.packets.proofs.Outcomes.{then-gives, when-gives, given-leaves}
 use Rattle.packets.proofs.Lists.{packets-accepted}
 use Rattle.timetable.specs.Entries.{entriesOf}
 use Rattle.timetable.specs.Costs.{costOf}
 use Rattle.policy.specs.Rounds.{outcomeOf}
 use Rattle.plan.specs.Entries.{entryNumbers}
 use Rattle.plan.specs.Frame as plan
-use Rattle.plan.specs.Frame.{frameBytes, framed, headBytes}
+use Rattle.plan.specs.Frame.{frameBytes, headBytes}
 use Rattle.plan.proofs.Framing.{Fitting, fitting-memory, write-gives}
 use Rattle.plan.proofs.Trips.{write-read-plan}
 use Rattle.planner.specs.Whole.{planNumbers, packetsOutcome, packetsFramed, planOutcome, frameAfter}

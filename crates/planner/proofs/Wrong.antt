@@ -1,18 +1,17 @@
 -- Answers of wrong planners that the whole call's promise does not admit, on the worked lists. Frames of 3,357 bytes. Assumes nothing.
 use Prim.Native.Nat.{ℕ}
-use mathlib.Core.Path.{_≡_, refl, sym, ap, subst, _∙_}
+use mathlib.Core.Path.{_≡_, refl, sym, ap, _∙_}
 use mathlib.Core.List.{List, [], _∷_, _++_}
 use native.Mathlib.Omega.{arith}
 use lib.ListN.{length, drop, replicate}
 use Rattle.bits.specs.Field.{digit, bit, spelt, fieldAt}
 use Rattle.bits.specs.Table.{total, rows, fieldsAt}
-use Rattle.packets.specs.Outcome.{Outcome, gives, refuses}
+use Rattle.packets.specs.Outcome.{gives, refuses}
 use Rattle.packets.specs.List.{countOn, recordsOn}
 use Rattle.packets.specs.declared.refusal.Refusal.{Refusal}
 use Rattle.packets.specs.declared.refusal.Refusal.the-variants.{EntryCount}
 use Rattle.packets.proofs.Answers.{refusal-gives}
 use Rattle.timetable.specs.Entries.{entriesOf}
-use Rattle.plan.specs.Entries.{entryNumbers}
 use Rattle.plan.specs.Frame.{planOn, readOutcome, entriesAfter}
 use Rattle.planner.specs.declared.PlanAnswer.{PlanAnswer}
 use Rattle.planner.specs.declared.PlanAnswer.the-variants.{Planned, Refused}

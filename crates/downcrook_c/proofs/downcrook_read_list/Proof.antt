@@ -2,7 +2,6 @@
 -- the reader does not hand back are the judge's too (`rest-taken`). Assumes nothing.
 use Prim.Native.Nat.{_-_, _≤_}
 use mathlib.Core.Path.{_≡_, ap, _∙_}
-use mathlib.Core.List.{_∷_, []}
 use lib.ListN.{length}
 use Rattle.packets.specs.List.{readOutcome}
 use Rattle.downcrook_c.specs.Shown.{shown, listedFields}

@@ -1,6 +1,6 @@
 -- `planner::plan_list` meets its contract: a list that is read gives accepted packets, whose plan is written (`list-planned`); one that is refused changes
 -- nothing (`list-refuses`). Assumes nothing.
-use Prim.Native.Nat.{_*_, _≤_}
+use Prim.Native.Nat.{_≤_}
 use mathlib.Core.Path.{_≡_, sym, ap, _∙_}
 use mathlib.Core.List.{_∷_, []}
 use native.Mathlib.Omega.{arith}

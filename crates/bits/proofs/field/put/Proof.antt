@@ -1,6 +1,6 @@
 -- `bits::field::put` meets its contract. The loop's invariant: putting what is left of the field into the bytes as they are now gives what putting
 -- the whole field into the bytes at entry gives. Each turn patches one byte. Assumes nothing.
-use Prim.Native.Nat.{_+_, _*_, _≤_}
+use Prim.Native.Nat.{_+_, _≤_}
 use mathlib.Core.Path.{_≡_, refl, sym, _∙_}
 use native.Mathlib.Omega.{arith}
 use lib.ListN.{length, length-set}

@@ -1,7 +1,7 @@
 -- `bits::table::read_row` meets its contract. The loop's invariant: the fields that are left, read into what out holds now, give what the whole row
 -- read into out at entry gives. Each turn reads one field. Assumes nothing.
 use Prim.Native.Nat.{_+_, _-_, _≤_}
-use mathlib.Core.Path.{_≡_, refl, sym, _∙_}
+use mathlib.Core.Path.{_≡_, sym, _∙_}
 use native.Mathlib.Omega.{arith}
 use lib.ListN.{length, getD, drop, length-set}
 use lib.Seq.{sets}

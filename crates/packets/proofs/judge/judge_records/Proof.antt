@@ -1,12 +1,8 @@
 -- `packets::judge::judge_records` meets its contract. The loop's invariant: the tests from record i on come to what all the tests come to.
 -- Each turn takes the tests of one record off the front. Assumes nothing.
 use Prim.Native.Nat.{_≤_, _*_, _-_}
-use mathlib.Core.Path.{_≡_, sym, _∙_}
+use mathlib.Core.Path.{_≡_}
 use borrow.Author.Needs.{needs}
-use native.Mathlib.Omega.{arith}
-use mathlib.Core.Path.{ap}
-use Prim.Native.Nat.{ℕ}
-use denote.Ref.{now}
 use Rattle.packets.specs.Records.{recordTests, recordAt, recordNumbers, sizeOf, arrivalOf, deadlineOf}
 use Rattle.packets.proofs.Outcomes.{turn-passes, turn-refuses, in-order-first, in-order-last}
 use Rattle.packets.proofs.judge.judge_records.Statement.{statement}

@@ -1,5 +1,4 @@
 -- `packets::list::count_on` meets its contract: the count is the field of 7 bits at bit 0. Assumes nothing.
-use native.Mathlib.Omega.{arith}
 use borrow.Author.Needs.{needs}
 use Rattle.packets.specs.List.{countOn}
 use Rattle.packets.proofs.list.count_on.Statement.{statement}

@@ -1,12 +1,10 @@
 -- `packets::list::judge_wire` meets its contract: at each return the tests that led there say which case of `wireTests` holds. Assumes nothing.
-use Prim.Native.Nat.{_+_, _*_, _≤_, _<_}
-use mathlib.Core.Path.{_≡_, sym, ap, _∙_}
+use mathlib.Core.Path.{_≡_, sym, _∙_}
 use native.Mathlib.Omega.{arith}
-use lib.ListN.{length}
 use borrow.Author.Needs.{needs}
 use borrow.Author.Tests.{eq-eqb, ne-eqb, lt-ltb, le-ltb}
 use Rattle.packets.specs.Outcome.{_when_else_}
-use Rattle.packets.specs.List.{wireTests, countOn, listBytes, unusedOn}
+use Rattle.packets.specs.List.{wireTests, unusedOn}
 use Rattle.packets.proofs.Lists.{list-bytes-is, unused-is}
 use Rattle.packets.proofs.list.judge_wire.Statement.{statement}
 use Rattle.packets.proofs.list.judge_wire.Tie as tie

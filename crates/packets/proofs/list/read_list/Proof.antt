@@ -4,9 +4,9 @@ use mathlib.Core.Path.{_≡_, sym, ap, _∙_}
 use mathlib.Core.List.{_∷_, []}
 use native.Mathlib.Omega.{arith}
 use lib.ListN.{length}
-use Rattle.packets.specs.Outcome.{gives, listAnswerOf, refusalOf}
-use Rattle.packets.specs.List.{countOn, readOutcome, restAfter, recordsAfter}
-use Rattle.packets.proofs.Lists.{Told, read-told, read-done, read-undone, records-total, record-narrow}
+use Rattle.packets.specs.Outcome.{gives, listAnswerOf}
+use Rattle.packets.specs.List.{readOutcome}
+use Rattle.packets.proofs.Lists.{read-told, read-done, read-undone, records-total, record-narrow}
 use borrow.Author.Needs.{needs}
 use Rattle.packets.proofs.list.read_list.Statement.{statement}
 use Rattle.packets.proofs.list.read_list.Tie as tie

@@ -1,5 +1,4 @@
 -- `plan::frame::count_on` meets its contract: the count is the field of 8 bits at bit 0. Assumes nothing.
-use native.Mathlib.Omega.{arith}
 use borrow.Author.Needs.{needs}
 use Rattle.plan.specs.Frame.{countOn}
 use Rattle.plan.proofs.frame.count_on.Statement.{statement}

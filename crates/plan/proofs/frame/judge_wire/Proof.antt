@@ -1,12 +1,10 @@
 -- `plan::frame::judge_wire` meets its contract: at each return the tests that led there say which case of `wireTests` holds. Assumes nothing.
-use Prim.Native.Nat.{_+_, _*_, _≤_, _<_}
-use mathlib.Core.Path.{_≡_, sym, ap, _∙_}
+use mathlib.Core.Path.{_≡_, sym, _∙_}
 use native.Mathlib.Omega.{arith}
-use lib.ListN.{length}
 use borrow.Author.Needs.{needs}
 use borrow.Author.Tests.{eq-eqb, ne-eqb, lt-ltb, le-ltb}
 use Rattle.packets.specs.Outcome.{_when_else_}
-use Rattle.plan.specs.Frame.{wireTests, countOn, unusedOn}
+use Rattle.plan.specs.Frame.{wireTests, unusedOn}
 use Rattle.plan.proofs.Framing.{plan-bytes-is, unused-is}
 use Rattle.plan.proofs.frame.judge_wire.Statement.{statement}
 use Rattle.plan.proofs.frame.judge_wire.Tie as tie

@@ -1,7 +1,5 @@
 -- `plan::frame::read_plan` meets its contract: a frame shorter than its head has no count byte, and the part of any other from byte 8 on is read.
 -- Assumes nothing.
-use mathlib.Core.Path.{_≡_, refl, sym, ap, _∙_}
-use native.Mathlib.Omega.{arith}
 use Rattle.packets.specs.declared.refusal.Refusal.the-variants.{Short}
 use Rattle.plan.proofs.Framing.{headless, read-undone, whole-part}
 use borrow.Author.Needs.{needs}

@@ -1,6 +1,6 @@
 -- `plan::frame::write_plan` meets its contract: entries and cost are tested, then the room, and only then is the table written into the frame's part from
 -- byte 8 on. Assumes nothing.
-use mathlib.Core.Path.{_≡_, refl, sym, ap, _∙_}
+use mathlib.Core.Path.{_≡_, refl, sym}
 use mathlib.Core.List.{[]}
 use native.Mathlib.Omega.{arith}
 use lib.ListN.{length-drop}

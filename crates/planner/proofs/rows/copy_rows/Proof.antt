@@ -1,6 +1,6 @@
 -- `planner::rows::copy_rows` meets its contract. The loop's invariant: the rows that are left, stored into what rows holds now, give what all stored into rows at
 -- entry give. Assumes nothing.
-use Prim.Native.Nat.{_+_, _-_, _*_, _≤_}
+use Prim.Native.Nat.{_-_, _*_, _≤_}
 use mathlib.Core.Path.{_≡_, refl, _∙_}
 use native.Mathlib.Nat.{sub-zero}
 use native.Mathlib.Omega.{arith}
