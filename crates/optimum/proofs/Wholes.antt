@@ -10,9 +10,10 @@ use Rattle.packets.specs.Limits.{airBytes}
 use Rattle.packets.specs.Records.{sizeOf}
 use Rattle.packets.specs.List.{countOn, recordsOn}
 use Rattle.timetable.specs.Entries.{Entry, entriesOf, radioMoment}
-use Rattle.timetable.specs.Costs.{costOf}
-use Rattle.timetable.specs.Right.{Each}
+use Rattle.timetable.specs.Costs.{costOf, stretchesCost, Multiple}
+use Rattle.timetable.specs.Right.{Each, EndsBy, Ordered}
 use Rattle.timetable.proofs.Lists.{timetable}
+use Rattle.timetable.proofs.Costs.{entries-cost}
 use Rattle.plan.specs.Entries.{entryNumbers}
 use Rattle.plan.specs.Frame.{planOn, readOutcome, entriesAfter}
 use Rattle.planner.specs.Whole.{planNumbers, frameAfter}
@@ -50,6 +51,28 @@ said-windows count records [] w = w
 said-windows count records (e ∷ entries) w =
     (record { packet-is = w .0 .packet-is; arrived = w .0 .arrived; in-time = w .0 .in-time }, said-windows count records entries (w .1))
 
+-- nor in their order
+said-ends : (e : Entry) (entries : List Entry) → Each (λ f. EndsBy e (f .start) (f .from)) entries → Each (λ f. EndsBy (said e) (f .start) (f .from)) (allSaid entries)
+unfolding allSaid said
+said-ends e [] o = o
+said-ends e (f ∷ entries) o = (o .0, said-ends e entries (o .1))
+
+said-ordered : (entries : List Entry) → Ordered entries → Ordered (allSaid entries)
+unfolding allSaid
+said-ordered [] o = o
+said-ordered (e ∷ entries) o = (said-ends e entries (o .0), said-ordered entries (o .1))
+
+-- nor in what they cost, and in which units
+said-cost : (M : ℕ) (entries : List Entry) → stretchesCost M (allSaid entries) ≡ stretchesCost M entries
+unfolding stretchesCost allSaid said
+said-cost M [] = refl
+said-cost M (e ∷ entries) = rw (said-cost M entries)
+
+said-multiple : (M : ℕ) (entries : List Entry) → Each (Multiple M) (allSaid entries) → Each (Multiple M) entries
+unfolding allSaid said
+said-multiple M [] m = m
+said-multiple M (e ∷ entries) m = (m .0, said-multiple M entries (m .1))
+
 -- demand 3, for every input and frame that the whole call accepts
 pub whole-optimum : (list frame : List ℕ) → WholeOptimum list frame
 whole-optimum list frame rounds entries cost h lent long =
@@ -57,6 +80,11 @@ whole-optimum list frame rounds entries cost h lent long =
       read = rw (n-is, cost-is) told;
       sent = λ i within. subst (λ (x : Fraction). Equal x (whole (airBytes (sizeOf (recordsOn list) i)))) (sym (same-bytes i)) (best .sent i within);
       windows = subst (Each (InWindow (countOn list) (recordsOn list))) (sym same) (said-windows (countOn list) (recordsOn list) own (best .windows));
+      ordered = subst Ordered (sym same) (said-ordered own (timetable (countOn list) (recordsOn list) (p .accepted) .ordered));
+      paid = λ M m.
+          ap (stretchesCost M) same ∙ said-cost M own
+          ∙ entries-cost (countOn list) (recordsOn list) (p .accepted) M (said-multiple M own (subst (Each (Multiple M)) same m))
+          ∙ ap (λ (x : ℕ). x * M) (sym cost-is);
       below = λ slots bytes rival. rw cost-is (best .rounded slots bytes rival);
     }
   where

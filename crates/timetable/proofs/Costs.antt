@@ -2,12 +2,16 @@
 -- The exact cost is the same fraction over every common multiple of the denominators. Assumes nothing.
 use Prim.Native.Nat.{ℕ, zero, suc, _+_, _-_, _*_, _/_, _^_, _<_, _≤_, _∣_}
 use mathlib.Core.Path.{_≡_, refl, sym, ap, subst, _∙_}
+use mathlib.Core.Bool.{Bool, true, false}
 use mathlib.Core.List.{List, [], _∷_, _++_}
 use native.Mathlib.Omega.{arith}
 use native.Mathlib.Decide.{ℕ-discrete}
 use native.Mathlib.Nat.{dvd-mul-left, dvd-mul-right-of-dvd, mul-div-cancel', mul-le-mul-left}
+use lib.Dec.{eqb}
+use borrow.Author.Tests.{eqb-true}
 use Rattle.packets.specs.Records.{Accepted}
-use Rattle.policy.specs.Windows.{Given, none, rate, inside, sum}
+use Rattle.policy.specs.Windows.{Given, none, rate, inside, onlyIf, sum}
+use Rattle.policy.specs.Points.{packetsOf}
 use Rattle.policy.specs.Rounds.{Day, Progress, dayOf, outcomeOf}
 use Rattle.policy.specs.Carried.{carries, inUnits, priceOf, priced}
 use Rattle.policy.specs.Answer.{shownD}
@@ -17,12 +21,13 @@ use Rattle.policy.proofs.Carry.{carries-is}
 use Rattle.policy.proofs.Facts.{assigned}
 use Rattle.timetable.specs.Setting.{mostRate, setting}
 use Rattle.timetable.specs.Entries.{Entry, Sheet, begun, eligible, entriesOf, filled, less, sent, sheetAt, unitsOf}
-use Rattle.timetable.specs.Costs.{commonD, costOf, exactCostD, exactCostIn, exactCostN, product, radioCost, stretchesCost}
+use Rattle.timetable.specs.Costs.{commonD, costOf, exactCostD, exactCostIn, exactCostN, product, radioCost, stretchesCost, Multiple}
+use Rattle.timetable.specs.Right.{Each, Right, ofPacket, unitsWhere}
 use Rattle.timetable.proofs.Turning.{differ, less-other, less-same, Stretch, turns-keep}
 use Rattle.timetable.proofs.NeverLate.{Rated, all-sent}
 use Rattle.timetable.proofs.Entered.{newEntry}
 use Rattle.timetable.proofs.Settings.{setting-most}
-use Rattle.timetable.proofs.Lists.{entries-are, rated}
+use Rattle.timetable.proofs.Lists.{entries-are, rated, timetable, units-some}
 
 -- ## The radio timetable
 
@@ -166,6 +171,23 @@ module _ (day : Day) (rates : Progress) where
   -- the exact cost, packet by packet: bytes times rate, in units of 1/L squared
   pub exact-by-packets : (L : ℕ) → Rated day rates → ((i n d : ℕ) → i < day .packets .count → rates .packet i ≡ rate n d → d ∣ L)
       → priced (inUnits L) (day .packets) (rates .packet) * L ≡ exactCostIn L day rates
+-- a packet's D and R stand in each of its entries
+named : (M : ℕ) (day : Day) (rates : Progress) (i n d : ℕ) → rates .packet i ≡ rate n d → (entries : List Entry)
+    → Each (Right day rates) entries → Each (Multiple M) entries → 0 < unitsWhere (ofPacket i) entries → d * setting n d ∣ M
+unfolding unitsWhere
+named M day rates i n d p [] right multiple some = absurd (omega (arith, some))
+named M day rates i n d p (e ∷ entries) right multiple some = go (eqb (e .packet) i) refl some (named M day rates i n d p entries (right .1) (multiple .1))
+  where
+    go : (b : Bool) → eqb (e .packet) i ≡ b → 0 < onlyIf b (e .to - e .from) + unitsWhere (ofPacket i) entries
+        → (0 < unitsWhere (ofPacket i) entries → d * setting n d ∣ M) → d * setting n d ∣ M
+    go true q some rest =
+        let own : rate (e .N) (e .D) ≡ rate n d = sym (right .0 .assigned) ∙ ap (rates .packet) (eqb-true _ _ q) ∙ p in
+        let N-is : e .N ≡ n = cc in
+        let D-is : e .D ≡ d = cc in
+        let R-is : e .R ≡ setting n d = right .0 .set ∙ ap (λ (x : ℕ). setting x (e .D)) N-is ∙ ap (setting n) D-is in
+        subst (λ (x : ℕ). x ∣ M) (ap (λ (x : ℕ). x * e .R) D-is ∙ ap (λ (x : ℕ). d * x) R-is) (multiple .0)
+    go false q some rest = rest (unfold onlyIf in omega (arith, some))
+
   unfolding exactCostIn
   exact-by-packets L r multiple = r .facts .K2 L (inUnits L) multiple
 
@@ -200,6 +222,16 @@ module _ (count : ℕ) (records : List ℕ) (accepted : Accepted count records) 
   -- the stretches of a list cost its radio cost
   pub list-stretches-cost : (M : ℕ)
       → ((i n d : ℕ) → i < dayOf count records .packets .count → outcomeOf count records .packet i ≡ rate n d → d * setting n d ∣ M)
+
+  -- the same in units that the entries alone name: every packet has an entry
+  pub entries-cost : (M : ℕ) → Each (Multiple M) (entriesOf count records) → stretchesCost M (entriesOf count records) ≡ costOf count records * M
+  entries-cost M multiple =
+      list-stretches-cost M
+      (λ i n d h p.
+      named M (dayOf count records) (outcomeOf count records) i n d p (entriesOf count records) (timetable count records accepted .right) multiple (sends i h))
+    where
+      sends : (i : ℕ) → i < dayOf count records .packets .count → 0 < unitsWhere (ofPacket i) (entriesOf count records)
+      sends i h = rw (timetable count records accepted .whole i h) (units-some count records accepted i (unfold dayOf packetsOf in h))
       → stretchesCost M (entriesOf count records) ≡ costOf count records * M
   list-stretches-cost M multiple =
       ap (stretchesCost M) (sym (entries-are count records accepted)) ∙

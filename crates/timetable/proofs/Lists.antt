@@ -61,7 +61,7 @@ module _ (count : ℕ) (records : List ℕ) (accepted : Accepted count records) 
   packets-are = unfold dayOf packetsOf in refl
 
   -- every packet has something to send
-  units-some : (i : ℕ) → i < count → 0 < unitsOf day rates i
+  pub units-some : (i : ℕ) → i < count → 0 < unitsOf day rates i
   unfolding unitsOf
   units-some i h =
       let i-is : i < day .packets .count = omega (arith, packets-are) in

@@ -1,5 +1,5 @@
 -- The costs of the two timetables (document 01, "The two timetables"). The unit is bytes per second, squared, times seconds. Assumes nothing.
-use Prim.Native.Nat.{ℕ, zero, suc, _+_, _-_, _*_, _/_}
+use Prim.Native.Nat.{ℕ, zero, suc, _+_, _-_, _*_, _/_, _∣_}
 use mathlib.Core.List.{List, [], _∷_}
 use Rattle.policy.specs.Rounds.{Day, Progress, dayOf, outcomeOf}
 use Rattle.policy.specs.Carried.{priced, inUnits}
@@ -21,6 +21,10 @@ costOf count records = radioCost (dayOf count records) (outcomeOf count records)
 unfoldable pub stretchesCost : ℕ → List Entry → ℕ
 stretchesCost M [] = 0
 stretchesCost M (e ∷ entries) = e .R * e .R * ((e .to - e .from) * (M / (e .D * e .R))) + stretchesCost M entries
+
+-- M is a multiple of an entry's D times R
+abbrev pub Multiple : ℕ → Entry → Type 0
+Multiple M e = e .D * e .R ∣ M
 
 -- ## The exact timetable
 
