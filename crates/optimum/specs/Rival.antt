@@ -26,13 +26,15 @@ unfoldable pub total : ℕ → (ℕ → Fraction) → Fraction
 total zero f = whole 0
 total (suc n) f = plus (total n f) (f n)
 
--- comparisons, exact by cross multiplication
+-- comparisons are exact, by cross multiplication: the two are equal ..
 abbrev pub Equal : Fraction → Fraction → Type 0
 Equal x y = x .over * y .under ≡ y .over * x .under
 
+-- .. the first is at most the second
 abbrev pub NotAbove : Fraction → Fraction → Type 0
 NotAbove x y = x .over * y .under ≤ y .over * x .under
 
+-- .. the first is below the second
 abbrev pub Below : Fraction → Fraction → Type 0
 Below x y = x .over * y .under < y .over * x .under
 

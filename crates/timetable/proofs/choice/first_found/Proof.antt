@@ -1,5 +1,5 @@
-use Rattle.timetable.proofs.Choosing.{found-all, found-next}
 -- `timetable::choice::first_found` meets its contract. The invariant: the choice so far is the choice among the first i packets. Assumes nothing.
+use Rattle.timetable.proofs.Choosing.{found-all, found-next}
 use Prim.Native.Nat.{_-_, _≤_}
 use mathlib.Core.Path.{_≡_, refl}
 use native.Mathlib.Omega.{arith}

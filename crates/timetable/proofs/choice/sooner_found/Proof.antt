@@ -1,5 +1,5 @@
-use borrow.Author.Tests.{not-true, not-false}
 -- `timetable::choice::sooner_found` meets its contract: each return goes by the tests that led there. Assumes nothing.
+use borrow.Author.Tests.{not-true, not-false}
 use Rattle.timetable.proofs.Choosing.{stays, takes-first, takes-earlier, stays-later}
 use Rattle.timetable.proofs.choice.sooner_found.Statement.{statement}
 use Rattle.timetable.proofs.choice.sooner_found.Tie as tie

@@ -1,7 +1,7 @@
-use mathlib.Core.Path.{refl, sym, _∙_}
-use lib.ListN.{getD}
 -- `timetable::epoch::fill` meets its contract. The invariant, `Filling`: the arrays hold the definition's sheet after some turns, and the number at hand is
 -- who is sent next. The measure is the room that is left (units). Assumes nothing.
+use mathlib.Core.Path.{refl, sym, _∙_}
+use lib.ListN.{getD}
 use Prim.Native.Nat.{_+_, _-_, _*_, _<_, _≤_}
 use native.Mathlib.Omega.{arith}
 use Rattle.timetable.specs.Setting.{mostRate}
