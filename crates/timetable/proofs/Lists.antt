@@ -120,10 +120,7 @@ module _ (count : ℕ) (records : List ℕ) (accepted : Accepted count records) 
       let to-most : e .to ≤ lastSecond * mostRate = le-trans (r .fits) (unfold unitsIn in mul-le-mul (w .1) (f .n-most)) in
       record {
         packet-fits = omega (arith, r .packet-is, packets-are, accepted .few);
-        start-fits = omega (arith, r .starts, w .0);
         R-fits = omega arith;
-        D-fits = omega (arith, f .d-most);
-        from-fits = omega (arith, r .some, to-most);
         to-fits = omega (arith, to-most);
         R-some = subst (λ (x : ℕ). 0 < x) (sym (r .set)) (setting-some (e .N) (e .D) (f .n-some) (f .d-some));
         D-some = f .d-some;

@@ -62,13 +62,10 @@ ofPacket i e = eqb (e .packet) i
 abbrev pub inEpoch : ℕ → Entry → Bool
 inEpoch t e = eqb (e .start) t
 
--- the figures of an entry: within its bits on the wire (6, 17, 22, 17, 39 and 39 bits), past the tests of refusal 10, and within document 01's table
+-- the figures of an entry: past the tests of refusal 10, which keep each within its bits on the wire, and within document 01's table
 pub record Figured (e : Entry) : Type 0 where
   pub packet-fits : e .packet < 2 ^ 6
-  pub start-fits : e .start < 2 ^ 17
   pub R-fits : e .R < 2 ^ 22
-  pub D-fits : e .D < 2 ^ 17
-  pub from-fits : e .from < 2 ^ 39
   pub to-fits : e .to < 2 ^ 39
   pub R-some : 0 < e .R
   pub D-some : 0 < e .D
