@@ -1,4 +1,3 @@
-mod Worked
 mod Wrong
 pub mod Earliest
 pub mod Turning
