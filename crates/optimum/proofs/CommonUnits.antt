@@ -7,8 +7,9 @@ use native.Mathlib.Nat.{dvd-trans, eq-of-mul-eq-mul-right, mul-div-cancel', mul-
 use Rattle.policy.specs.Windows.{Windows, sum}
 use Rattle.policy.proofs.Sums.{sum-scale}
 use Rattle.timetable.specs.Costs.{product}
+use Rattle.timetable.proofs.Costs.{product-of}
 use Rattle.optimum.specs.Rival.{Fraction, total, Outside, Rival, slotBytes, slotRate, slotCost, rivalCost}
-use Rattle.optimum.proofs.Totals.{total-in, total-under, product-of, product-some}
+use Rattle.optimum.proofs.Totals.{total-in, total-under, product-some}
 
 module _ (seconds : ℕ) (packets : Windows) (slots : ℕ) (bytes : ℕ → ℕ → Fraction) (M : ℕ) (y : ℕ → ℕ → ℕ)
     (units : (t i : ℕ) → t < slots * seconds → i < packets .count → bytes t i .over * M ≡ y t i * bytes t i .under)

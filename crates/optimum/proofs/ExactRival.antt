@@ -23,12 +23,12 @@ use Rattle.timetable.specs.Costs.{exactCostD, exactCostN}
 use Rattle.timetable.proofs.NeverLate.{Rated}
 use Rattle.timetable.proofs.Entered.{each-map}
 use Rattle.timetable.proofs.Costs.{common}
-use Rattle.optimum.specs.Rival.{Fraction, whole, plus, total, Equal, Outside, Rival, slotRate, rivalCost}
+use Rattle.optimum.specs.Rival.{Fraction, whole, plus, total, Equal, Outside, Rival, rivalCost}
 use Rattle.optimum.specs.Optimum.{allUnits, bytesIn, unitsAt}
 use Rattle.optimum.proofs.Totals.{total-in}
 use Rattle.optimum.proofs.Slots.{rateAt, rate-at}
 use Rattle.optimum.proofs.CommonUnits.{cost-in}
-use Rattle.optimum.proofs.Rates.{Cut, L, L-some, epochRate, exact-by-slots, no-rival-below, packet-common, same-rival-rates}
+use Rattle.optimum.proofs.Rates.{Cut, L, L-some, epochRate, exact-by-slots, no-rival-below, packet-common}
 use Rattle.optimum.proofs.Stretches.{after-none, all-seconds, before-none, over, over-eq, over-le, over-sum, second-bound}
 
 -- ## Bytes of entries over a common denominator
@@ -243,8 +243,3 @@ module _ (day : Day) (rates : Progress) (r : Rated day rates) (entries : List En
         squares : sum (1 * seconds) (λ t. sends t * sends t)
             ≤ sum (1 * seconds) (λ t. rateAt (day .epochs) 1 (epochRate day rates r) t * rateAt (day .epochs) 1 (epochRate day rates r) t)
         squares = sum-le (1 * seconds) _ _ (λ t h. mul-le-mul (second-most t) (second-most t))
-
-    -- in every second it sends at the rate of the second's epoch
-    pub second-rates : (t : ℕ) → t < 1 * seconds
-        → Equal (slotRate (day .packets) 1 bytes t) (record { over = rateAt (day .epochs) 1 (epochRate day rates r) t; under = l })
-    second-rates = same-rival-rates day rates r seconds cut 1 bytes is-rival costs-exactly

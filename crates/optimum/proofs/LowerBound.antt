@@ -18,7 +18,8 @@ use native.Mathlib.Omega.{arith}
 use native.Mathlib.Nat.{le-of-mul-le-mul-left, mul-le-mul-left, mul-le-mul-right}
 use Rattle.policy.specs.Windows.{sum}
 use Rattle.policy.proofs.Sums.{sum-eq, sum-le, sum-add, sum-scale}
-use Rattle.optimum.proofs.Sums.{sum-exchange, sum-tight}
+use Rattle.timetable.proofs.NeverLate.{sum-tight}
+use Rattle.optimum.proofs.Sums.{sum-exchange}
 use Rattle.optimum.proofs.Squares.{twice-product, same-squares}
 
 module _ (S q n : ℕ) (w p rate : ℕ → ℕ) (y : ℕ → ℕ → ℕ) (L M E : ℕ)

@@ -1,9 +1,8 @@
 -- Sums of fractions over a common denominator. If each of the fractions is m over M, their sum is the sum of the m over M. Assumes nothing.
-use Prim.Native.Nat.{ℕ, zero, suc, _*_, _<_, _∣_}
-use mathlib.Core.Path.{_≡_, sym, ap, subst}
+use Prim.Native.Nat.{ℕ, zero, suc, _*_, _<_}
+use mathlib.Core.Path.{_≡_, ap}
 use native.Mathlib.Omega.{arith}
-use native.Mathlib.Decide.{ℕ-discrete}
-use native.Mathlib.Nat.{dvd-mul-left, dvd-mul-right-of-dvd, mul-pos}
+use native.Mathlib.Nat.{mul-pos}
 use Rattle.policy.specs.Windows.{sum}
 use Rattle.timetable.specs.Costs.{product}
 use Rattle.optimum.specs.Rival.{Fraction, total}
@@ -31,12 +30,3 @@ pub product-some : (n : ℕ) (f : ℕ → ℕ) → ((i : ℕ) → i < n → 0 < 
 unfolding product
 product-some zero f h = omega arith
 product-some (suc n) f h = mul-pos (product-some n f (λ i p. h i (omega arith))) (h n (omega arith))
-
-pub product-of : (n : ℕ) (f : ℕ → ℕ) (k : ℕ) → k < n → f k ∣ product n f
-unfolding product
-product-of zero f k h = absurd (omega arith)
-product-of (suc n) f k h = go (ℕ-discrete k n) (product-of n f k)
-  where
-    go : Dec (k ≡ n) → (k < n → f k ∣ product n f) → f k ∣ product n f * f n
-    go (yes e) rest = subst (λ (x : ℕ). f x ∣ product n f * f n) (sym e) (dvd-mul-left (f n) (product n f))
-    go (no e) rest = dvd-mul-right-of-dvd (f k) (rest (omega (arith, e))) (f n)

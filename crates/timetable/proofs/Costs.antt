@@ -113,6 +113,16 @@ module _ (M : ℕ) (day : Day) (rates : Progress) where
 
 -- ## The exact timetable
 
+-- a product is a multiple of each of its factors
+pub product-of : (n : ℕ) (f : ℕ → ℕ) (k : ℕ) → k < n → f k ∣ product n f
+unfolding product
+product-of zero f k h = absurd (omega arith)
+product-of (suc n) f k h = go (ℕ-discrete k n) (product-of n f k)
+  where
+    go : Dec (k ≡ n) → (k < n → f k ∣ product n f) → f k ∣ product n f * f n
+    go (yes e) rest = subst (λ (x : ℕ). f x ∣ product n f * f n) (sym e) (dvd-mul-left (f n) (product n f))
+    go (no e) rest = dvd-mul-right-of-dvd (f k) (rest (omega (arith, e))) (f n)
+
 module _ (day : Day) (rates : Progress) where
   -- L is a multiple of the D of each epoch
   abbrev pub Common : ℕ → Type 0
@@ -147,15 +157,6 @@ module _ (day : Day) (rates : Progress) where
             ap (λ (x : ℕ). (M / d) * x) (mul-div-cancel' d (cl k n d h p)),
           ))
 
-  product-of : (n : ℕ) (f : ℕ → ℕ) (k : ℕ) → k < n → f k ∣ product n f
-  unfolding product
-  product-of zero f k h = absurd (omega arith)
-  product-of (suc n) f k h = go (ℕ-discrete k n) (product-of n f k)
-    where
-      go : Dec (k ≡ n) → (k < n → f k ∣ product n f) → f k ∣ product n f * f n
-      go (yes e) rest = subst (λ (x : ℕ). f x ∣ product n f * f n) (sym e) (dvd-mul-left (f n) (product n f))
-      go (no e) rest = dvd-mul-right-of-dvd (f k) (rest (omega (arith, e))) (f n)
-
   -- the product of the D is such a multiple
   pub common : Common (commonD day rates)
   unfolding commonD
@@ -168,9 +169,8 @@ module _ (day : Day) (rates : Progress) where
   unfolding exactCostD exactCostN
   exact-cost L c = exact-same L (commonD day rates) c common
 
-  -- the exact cost, packet by packet: bytes times rate, in units of 1/L squared
-  pub exact-by-packets : (L : ℕ) → Rated day rates → ((i n d : ℕ) → i < day .packets .count → rates .packet i ≡ rate n d → d ∣ L)
-      → priced (inUnits L) (day .packets) (rates .packet) * L ≡ exactCostIn L day rates
+-- ## Accepted lists
+
 -- a packet's D and R stand in each of its entries
 named : (M : ℕ) (day : Day) (rates : Progress) (i n d : ℕ) → rates .packet i ≡ rate n d → (entries : List Entry)
     → Each (Right day rates) entries → Each (Multiple M) entries → 0 < unitsWhere (ofPacket i) entries → d * setting n d ∣ M
@@ -187,11 +187,6 @@ named M day rates i n d p (e ∷ entries) right multiple some = go (eqb (e .pack
         let R-is : e .R ≡ setting n d = right .0 .set ∙ ap (λ (x : ℕ). setting x (e .D)) N-is ∙ ap (setting n) D-is in
         subst (λ (x : ℕ). x ∣ M) (ap (λ (x : ℕ). x * e .R) D-is ∙ ap (λ (x : ℕ). d * x) R-is) (multiple .0)
     go false q some rest = rest (unfold onlyIf in omega (arith, some))
-
-  unfolding exactCostIn
-  exact-by-packets L r multiple = r .facts .K2 L (inUnits L) multiple
-
--- ## Accepted lists
 
 module _ (count : ℕ) (records : List ℕ) (accepted : Accepted count records) where
   -- the radio cost fits its 44 bits
@@ -222,6 +217,11 @@ module _ (count : ℕ) (records : List ℕ) (accepted : Accepted count records) 
   -- the stretches of a list cost its radio cost
   pub list-stretches-cost : (M : ℕ)
       → ((i n d : ℕ) → i < dayOf count records .packets .count → outcomeOf count records .packet i ≡ rate n d → d * setting n d ∣ M)
+      → stretchesCost M (entriesOf count records) ≡ costOf count records * M
+  list-stretches-cost M multiple =
+      ap (stretchesCost M) (sym (entries-are count records accepted)) ∙
+      stretches-cost M (dayOf count records) (outcomeOf count records) (rated count records accepted) multiple ∙
+      ap (λ (x : ℕ). x * M) (unfold costOf in refl)
 
   -- the same in units that the entries alone name: every packet has an entry
   pub entries-cost : (M : ℕ) → Each (Multiple M) (entriesOf count records) → stretchesCost M (entriesOf count records) ≡ costOf count records * M
@@ -232,8 +232,3 @@ module _ (count : ℕ) (records : List ℕ) (accepted : Accepted count records) 
     where
       sends : (i : ℕ) → i < dayOf count records .packets .count → 0 < unitsWhere (ofPacket i) (entriesOf count records)
       sends i h = rw (timetable count records accepted .whole i h) (units-some count records accepted i (unfold dayOf packetsOf in h))
-      → stretchesCost M (entriesOf count records) ≡ costOf count records * M
-  list-stretches-cost M multiple =
-      ap (stretchesCost M) (sym (entries-are count records accepted)) ∙
-      stretches-cost M (dayOf count records) (outcomeOf count records) (rated count records accepted) multiple ∙
-      ap (λ (x : ℕ). x * M) (unfold costOf in refl)

@@ -37,11 +37,6 @@ numbers-more [] e = refl
 numbers-more (f ∷ entries) e =
     ap (λ (l : List ℕ). f .packet ∷ f .start ∷ f .R ∷ f .D ∷ f .from ∷ f .to ∷ f .N ∷ l) (numbers-more entries e)
 
-pub numbers-length : (entries : List Entry) → length (numbersOf entries) ≡ entryNumbers * length entries
-unfolding numbersOf
-numbers-length [] = refl
-numbers-length (e ∷ entries) = omega (arith, numbers-length entries)
-
 row-long : (l : List ℕ) (at : ℕ) (row : List ℕ) → at + length row ≤ length l → length (withRow l at row) ≡ length l
 unfolding withRow
 row-long l at row h =

@@ -57,17 +57,16 @@ apart x n d n' d' h p = go (carries x n d) refl
     go false q = refl
     go true q = absurd (not-both-ways (ap (λ (z : Given). carries z n' d') (sym (carries-is x n d q)) ∙ p) h)
 
-sum-tight : (m : ℕ) (f g : ℕ → ℕ) → ((j : ℕ) → j < m → f j ≤ g j) → sum m f ≡ sum m g → (j : ℕ) → j < m → f j ≡ g j
+-- terms that are not above others, and whose sum is not below theirs, are equal to them
+pub sum-tight : (n : ℕ) (f g : ℕ → ℕ) → ((i : ℕ) → i < n → f i ≤ g i) → sum n g ≤ sum n f → (i : ℕ) → i < n → f i ≡ g i
 unfolding sum
-sum-tight zero f g le e j h = absurd (omega arith)
-sum-tight (suc m) f g le e j h = go (ℕ-discrete j m) (sum-tight m f g (λ i q. le i (omega arith)))
+sum-tight zero f g h k i p = absurd (omega arith)
+sum-tight (suc n) f g h k i p = go (ℕ-discrete i n) (λ (q : i < n). sum-tight n f g (λ j r. h j (omega arith)) (omega (arith, h n (omega arith))) i q)
   where
-    below : sum m f ≤ sum m g
-    below = sum-le m f g (λ i q. le i (omega arith))
-
-    go : Dec (j ≡ m) → (sum m f ≡ sum m g → (i : ℕ) → i < m → f i ≡ g i) → f j ≡ g j
-    go (yes q) rest = omega (arith, below, e, le m (omega arith), ap f q, ap g q)
-    go (no q) rest = rest (omega (arith, below, e, le m (omega arith))) j (omega (arith, q))
+    go : Dec (i ≡ n) → (i < n → f i ≡ g i) → f i ≡ g i
+    go (yes e) rest =
+        ap f e ∙ (omega (arith, k, h n (omega arith), sum-le n f g (λ j r. h j (omega arith)))) ∙ ap g (sym e)
+    go (no e) rest = rest (omega (arith, e))
 
 module _ (day : Day) (rates : Progress) (r : Rated day rates) where
   units-are : (i n d : ℕ) → carries (rates .packet i) n d ≡ true → unitsOf day rates i ≡ day .packets .weight i * d
