@@ -13,3 +13,4 @@ pub mod Copying
 pub mod Filling
 pub mod Making
 pub mod Answering
+pub mod PastTheCount
