@@ -1,6 +1,7 @@
 -- `timetable::choice::is_sendable` meets its contract: each return goes by the tests that led there. Assumes nothing.
 use borrow.Author.Tests.{eq-eqb, ne-eqb, lt-leb, le-leb}
 use mathlib.Core.Path.{refl}
+use native.Mathlib.Omega.{arith}
 use Rattle.timetable.specs.Steps.{sendable}
 use Rattle.timetable.proofs.choice.is_sendable.Statement.{statement}
 use Rattle.timetable.proofs.choice.is_sendable.Tie as tie
@@ -15,7 +16,9 @@ returns-2 c = rw (eq-eqb _ _ (c .before .before .if1 .left), ne-eqb _ _ (c .if2 
 
 returns-3 : tie.Need-returns-3
 unfolding sendable
-returns-3 c = rw (eq-eqb _ _ (c .before .before .before .before .if1 .left), eq-eqb _ _ (c .before .before .if2 .left), lt-leb _ _ (c .if3 .taken)) refl
+returns-3 c =
+    let a = c .before .before .before .before .before .before .args in
+    rw (eq-eqb _ _ (c .before .before .before .before .if1 .left), eq-eqb _ _ (c .before .before .if2 .left), lt-leb (a .from) (a .epoch .start) (omega (arith, c .if3 .taken))) refl
 
 returns-4 : tie.Need-returns-4
 unfolding sendable
