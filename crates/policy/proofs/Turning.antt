@@ -19,7 +19,7 @@ use Rattle.policy.specs.declared.densest.Leader.{Leader}
 use Rattle.policy.specs.Windows.{Windows, Given, rate, unassigned, inside, onlyIf, choose, assign}
 use Rattle.policy.specs.Points.{pointsOf, packetsOf, epochsOf}
 use Rattle.policy.specs.Rounds.{Day, Progress, atFirst, load, len, nowhere, between, pick, giveRate, taken, roundOf, round, after, dayOf, outcomeOf}
-use Rattle.policy.specs.Steps.{Spanned, neighbours, leftOver, Left, fresh, chosen, Shared, PlaceIs, Placed, Gathered, Passed, countedFrom, dueTo, givenOf, SetUp, Rated, Ready, LeaderIs, Taken}
+use Rattle.policy.specs.Steps.{Spanned, neighbours, leftOver, Left, fresh, chosen, Shared, Before, Placed, Gathered, Passed, countedFrom, dueTo, givenOf, SetUp, Rated, Ready, LeaderIs, Taken}
 use Rattle.policy.proofs.Sums.{sum-eq, sum-most}
 use Rattle.policy.proofs.Left.{onlyIf-most}
 use Rattle.policy.proofs.Filling.{left-over-most}
@@ -159,19 +159,28 @@ module _ (count : ℕ) (records : List ℕ) (accepted : Accepted count records) 
     -- the place of a point is found
     pub place-found : (times place : List ℕ) (value : ℕ → ℕ) → ((i : ℕ) → i < count → getD times i 0 ≡ value i) → ((i : ℕ) → i < count → Has (value i) P)
         → Placed count times n points place → (i : ℕ) → i < count → (getD place i 0 < n) × (getD points (getD place i 0) 0 ≡ value i)
-    place-found times place value value-is has placed i h = go (decLt (getD place i 0) n)
+    place-found times place value value-is has placed i h = go (same (decLt (w .0) (getD place i 0)) (decLt (getD place i 0) (w .0)))
       where
-        is : PlaceIs (getD times i 0) n points (getD place i 0)
+        is : Before (getD times i 0) n points (getD place i 0)
         is = placed .is i h
 
-        where-it-is : Has (value i) P
-        where-it-is = has i h
+        w : Has (value i) P
+        w = has i h
 
-        go : Dec (getD place i 0 < n) → (getD place i 0 < n) × (getD points (getD place i 0) 0 ≡ value i)
-        go (yes p) = (p, is .found p ∙ value-is i h)
-        go (no p) =
-            absurd (is .before (where-it-is .0) (omega (arith, p, where-it-is .1, n-is))
-            (point-at (where-it-is .0) (omega (arith, where-it-is .1, n-is)) ∙ where-it-is .2 ∙ sym (value-is i h)))
+        in-points : w .0 < n
+        in-points = omega (arith, w .1, n-is)
+
+        there : getD points (w .0) 0 ≡ getD times i 0
+        there = point-at (w .0) in-points ∙ w .2 ∙ sym (value-is i h)
+
+        -- neither before it nor behind it
+        same : Dec (w .0 < getD place i 0) → Dec (getD place i 0 < w .0) → getD place i 0 ≡ w .0
+        same (yes p) q = absurd (omega (arith, is .below (w .0) p, there))
+        same (no p) (yes q) = absurd (omega (arith, is .next (omega (arith, q, in-points)), point-rises (getD place i 0) (w .0) q in-points, there))
+        same (no p) (no q) = omega (arith, p, q)
+
+        go : getD place i 0 ≡ w .0 → (getD place i 0 < n) × (getD points (getD place i 0) 0 ≡ value i)
+        go e = (omega (arith, e, in-points), ap (λ (k : ℕ). getD points k 0) e ∙ there ∙ value-is i h)
 
   module _ (n : ℕ) (points from till bytes ends seconds start row bounds arrivals deadlines spots : List ℕ) (setup : SetUp count records n points from till bytes ends seconds start row bounds arrivals deadlines spots) where
     from-is : (i : ℕ) → i < count → getD from i 0 ≡ arrivalOf records i

@@ -81,15 +81,9 @@ pub record Shared (count : ℕ) (from till n d : List ℕ) (s e rate-n rate-d : 
 
 -- ## The row: the packets by rising deadline
 
--- r is the first place of t among the first n points, or n
-pub record PlaceIs (t n : ℕ) (points : List ℕ) (r : ℕ) : Type 0 where
-  pub within : r ≤ n
-  pub before : (k : ℕ) → k < r → getD points k 0 ≡ t → ⊥
-  pub found : r < n → getD points r 0 ≡ t
-
 -- the place of each of the first `count` times
 pub record Placed (count : ℕ) (times : List ℕ) (n : ℕ) (points place : List ℕ) : Type 0 where
-  pub is : (i : ℕ) → i < count → PlaceIs (getD times i 0) n points (getD place i 0)
+  pub is : (i : ℕ) → i < count → Before (getD times i 0) n points (getD place i 0)
 
 -- 1 where p is c, else 0
 unfoldable pub counted : ℕ → ℕ → ℕ
