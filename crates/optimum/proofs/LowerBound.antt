@@ -6,9 +6,9 @@
 -- slots, the products are at least 2 q M² E, since every byte is sent at a rate that is not below its packet's, and the second squares are q M² E. So the first squares, the
 -- other way's cost times q L² M², are not below q M² E. As much only if a = b in every slot.
 -- That is a bound and not yet a least cost: some way of sending must attain it.
--- What document 02 needs beyond it: (vi) for a walk that is proved by K1 and K2 of its own rates, `same-rates` with a rival that attains both bounds; (vii) that every
+-- What document 02 needs beyond it: (vi) for a walk that is proved by not-slower and priced-alike of its own rates, `same-rates` with a rival that attains both bounds; (vii) that every
 -- rival sends the load of a round's interval inside it, so that some slot there is not below the round's rate, and that the exact timetable stays within its highest rate;
--- (xi) a tangent of the table in place of the square, and K2 with the table's rise as the price; (xiii) `same-rates`, with the exact timetable as the rival that
+-- (xi) a tangent of the table in place of the square, and priced-alike with the table's rise as the price; (xiii) `same-rates`, with the exact timetable as the rival that
 -- attains the bound.
 -- Assumes nothing.
 use Prim.Native.Nat.{ℕ, _+_, _*_, _<_, _≤_}

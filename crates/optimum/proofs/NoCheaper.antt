@@ -24,11 +24,11 @@ pub record Conditions (seconds : ℕ) (packets epochs : Windows) (L : ℕ) (pack
   pub covered : (q t i : ℕ) → i < packets .count → q * packets .from i ≤ t → t < q * packets .till i
       → (k : ℕ) × (k < epochs .count) × (packets .from i ≤ epochs .from k) × (epochs .till k ≤ packets .till i)
       × (q * epochs .from k ≤ t) × (t < q * epochs .till k)
-  -- K1: an epoch inside a packet's window has a rate that is not below the packet's
-  pub K1 : (i k : ℕ) → i < packets .count → k < epochs .count → packets .from i ≤ epochs .from k → epochs .till k ≤ packets .till i
+  -- an epoch inside a packet's window has a rate that is not below the packet's
+  pub not-slower : (i k : ℕ) → i < packets .count → k < epochs .count → packets .from i ≤ epochs .from k → epochs .till k ≤ packets .till i
       → packetRate i ≤ epochRate k
-  -- K2: bytes times rate, over packets, is rate squared times seconds, over epochs
-  pub K2 : sum (packets .count) (λ i. packets .weight i * packetRate i) * L ≡ sum (epochs .count) (λ k. epochs .weight k * (epochRate k * epochRate k))
+  -- bytes times rate, over packets, is rate squared times seconds, over epochs
+  pub priced-alike : sum (packets .count) (λ i. packets .weight i * packetRate i) * L ≡ sum (epochs .count) (λ k. epochs .weight k * (epochRate k * epochRate k))
 
 module _ (seconds : ℕ) (packets epochs : Windows) (L : ℕ) (packetRate epochRate : ℕ → ℕ)
     (c : Conditions seconds packets epochs L packetRate epochRate)
@@ -58,7 +58,7 @@ module _ (seconds : ℕ) (packets epochs : Windows) (L : ℕ) (packetRate epochR
           go : Dec (slots * packets .from i ≤ t) → Dec (t < slots * packets .till i) → (y t i ≡ 0) ⊎ (packetRate i ≤ rateAt epochs slots epochRate t)
           go (yes a) (yes b) =
               let e = c .covered slots t i g a b in
-              inr (le-trans (c .K1 i (e .0) g (e .1) (e .2) (e .3)) (rate-at epochs slots epochRate t (e .0) (e .1) (e .4) (e .5)))
+              inr (le-trans (c .not-slower i (e .0) g (e .1) (e .2) (e .3)) (rate-at epochs slots epochRate t (e .0) (e .1) (e .4) (e .5)))
           go (yes a) (no b) = inl (sent-outside seconds packets slots bytes rival t i h g (inr (omega (arith, b))))
           go (no a) b = inl (sent-outside seconds packets slots bytes rival t i h g (inl (omega (arith, a))))
 
@@ -75,7 +75,7 @@ module _ (seconds : ℕ) (packets epochs : Windows) (L : ℕ) (packetRate epochR
             arith,
             mul-le-mul-right (rivalCost seconds packets slots bytes .under)
                 (lower-bound (slots * seconds) slots (packets .count) (packets .weight) packetRate (rateAt epochs slots epochRate) y L M cost
-                (rival .some) (by-slots slots) (c .K2) (sent-whole seconds packets slots bytes rival) allowed),
+                (rival .some) (by-slots slots) (c .priced-alike) (sent-whole seconds packets slots bytes rival) allowed),
             ap (λ (x : ℕ). x * (L * L)) cost-is,
           ))
           (mul-pos M-some M-some)
@@ -91,7 +91,7 @@ module _ (seconds : ℕ) (packets epochs : Windows) (L : ℕ) (packetRate epochR
             ap (λ (x : ℕ). x * (slots * L)) (slot-bytes-in seconds packets slots bytes M y (sent-units seconds packets slots bytes rival) t h),
             ap (λ (x : ℕ). x * slotBytes packets bytes t .under)
                 (same-rates (slots * seconds) slots (packets .count) (packets .weight) packetRate (rateAt epochs slots epochRate) y L M cost
-                (rival .some) (by-slots slots) (c .K2) (sent-whole seconds packets slots bytes rival) allowed same t h),
+                (rival .some) (by-slots slots) (c .priced-alike) (sent-whole seconds packets slots bytes rival) allowed same t h),
           ))
         where
           same : slots * sum (slots * seconds) (λ t. sum (packets .count) (y t) * sum (packets .count) (y t)) * (L * L) ≡ cost * (M * M)

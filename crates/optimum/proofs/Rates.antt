@@ -58,7 +58,7 @@ module _ (day : Day) (rates : Progress) (r : Rated day rates) where
       seconds =
           unfold carriedInAll in
           pos-of-dvd-of-pos (dvd-mul-left _ n)
-          (subst (λ (x : ℕ). 0 < x) (r .facts .H-all n d) (mul-pos bytes (r .facts .packet-rate i n d h p .d-some)))
+          (subst (λ (x : ℕ). 0 < x) (r .facts .filled-in-all n d) (mul-pos bytes (r .facts .packet-rate i n d h p .d-some)))
 
       go : (k : ℕ) × (k < day .epochs .count) × (0 < onlyIf (carries (rates .epoch k) n d) (day .epochs .weight k))
           → (k : ℕ) × (k < day .epochs .count) × (rates .epoch k ≡ rate n d)
@@ -78,7 +78,7 @@ module _ (day : Day) (rates : Progress) (r : Rated day rates) where
   -- the exact cost by packets
   pub by-packets : sum (day .packets .count) (λ i. day .packets .weight i * packetRate i) * L ≡ exactCostN day rates
   unfolding exactCostN exactCostIn priced
-  by-packets = r .facts .K2 L (inUnits L) packet-common
+  by-packets = r .facts .priced-alike L (inUnits L) packet-common
 
   -- the exact cost by epochs
   by-epochs : sum (day .epochs .count) (λ k. day .epochs .weight k * (epochRate k * epochRate k)) ≡ exactCostN day rates
@@ -92,13 +92,13 @@ module _ (day : Day) (rates : Progress) (r : Rated day rates) where
       square none = unfold priceOf in omega arith
       square (rate n d) = unfold priceOf in refl
 
-  -- K1 over the common denominator
+  -- not-slower over the common denominator
   not-slower : (i k : ℕ) → i < day .packets .count → k < day .epochs .count → day .packets .from i ≤ day .epochs .from k → day .epochs .till k ≤ day .packets .till i
       → packetRate i ≤ epochRate k
   not-slower i k h g a b = go (assigned (rates .packet i) (r .finished i h))
     where
       go : (n : ℕ) × ((d : ℕ) × (rates .packet i ≡ rate n d)) → packetRate i ≤ epochRate k
-      go (n, (d, p)) = with-rate (r .facts .K1 i k n d h g p a b)
+      go (n, (d, p)) = with-rate (r .facts .not-slower i k n d h g p a b)
         where
           with-rate : AtLeast (rates .epoch k) n d → packetRate i ≤ epochRate k
           with-rate s =
@@ -121,8 +121,8 @@ module _ (day : Day) (rates : Progress) (r : Rated day rates) where
           lengths = r .seconds;
           today = cut .today;
           covered = λ q t i h a b. inside q t i h (cut .covered q t i h a b) a b;
-          K1 = not-slower;
-          K2 = by-packets ∙ sym by-epochs;
+          not-slower = not-slower;
+          priced-alike = by-packets ∙ sym by-epochs;
         }
       where
         -- an epoch that has a slot of the window lies inside it, since no arrival and no deadline divides it

@@ -91,9 +91,9 @@ rates-answer-one (Refused r) (Rated n s) e = refusal-gives r (n ∷ s ∷ []) e
 rates-answer-one (Refused r) (Refused s) e = ap Refused (refusal-one r s e)
 
 -- the promise of the call admits one answer, and one content of the lent room
-pub epochs-rated-one : (count : ℕ) (records lent : List ℕ) (a b : RatesAnswer) (x y : List ℕ)
+pub epochs-rated-once : (count : ℕ) (records lent : List ℕ) (a b : RatesAnswer) (x y : List ℕ)
     → EpochsRated count records lent a x → EpochsRated count records lent b y → (a ≡ b) × (x ≡ y)
-epochs-rated-one count records lent a b x y p q =
+epochs-rated-once count records lent a b x y p q =
     (rates-answer-one a b (p .answer-is ∙ sym (q .answer-is)), p .exit-is ∙ sym (q .exit-is))
 
 -- a refusal changes nothing in the lent room

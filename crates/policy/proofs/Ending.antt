@@ -45,7 +45,7 @@ module _ (day : Day) (proper : Proper day) where
       go nowhere p = refl
       go (between s e) p =
           let b = pick-best day done (facts day proper done run .positive) s e p in
-          let x = left-some (day .packets) (done .packet) s e (b .candidate .holds) in
+          let x = left-some (day .packets) (done .packet) s e (b .holding .holds) in
           absurd (not-both-ways (x .2) (end (x .0) (x .1)))
 
   -- a round is taken where a packet is unassigned

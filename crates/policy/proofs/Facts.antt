@@ -1,6 +1,6 @@
 -- What rounds leave, for any run in which each round takes some densest interval: `Facts`, carried round by round.
--- The density of a round bounds the state before it and, by Hull, after it. So what was given earlier is not lower (K1), each round's bytes are its rate
--- times its seconds (K2), and its packets inside any interval have at most the rate times the seconds of its epochs there (H). Assumes nothing.
+-- The density of a round bounds the state before it and, by Hull, after it. So what was given earlier is not lower (not-slower), each round's bytes are its rate
+-- times its seconds (priced-alike), and its packets inside any interval have at most the rate times the seconds of its epochs there (holds-inside). Assumes nothing.
 use Prim.Native.Nat.{ℕ, _+_, _*_, _/_, _<_, _≤_, _∣_, min, max}
 use mathlib.Core.Path.{_≡_, refl, sym, ap, subst₂, _∙_}
 use mathlib.Core.Bool.{Bool, true, false, _&&_}
@@ -35,17 +35,17 @@ pub record Facts (day : Day) (done : Progress) : Type 0 where
   -- rates are in lowest terms and within the figures
   pub packet-rate : (i n d : ℕ) → i < day .packets .count → done .packet i ≡ rate n d → RateInRange n d
   pub epoch-rate : (k n d : ℕ) → k < day .epochs .count → done .epoch k ≡ rate n d → RateInRange n d
-  -- K1: every epoch inside the window of a packet with a rate has a rate, and that is at least the packet's
-  pub K1 : (i k n d : ℕ) → i < day .packets .count → k < day .epochs .count → done .packet i ≡ rate n d
+  -- every epoch inside the window of a packet with a rate has a rate, and that is at least the packet's
+  pub not-slower : (i k n d : ℕ) → i < day .packets .count → k < day .epochs .count → done .packet i ≡ rate n d
       → day .packets .from i ≤ day .epochs .from k → day .epochs .till k ≤ day .packets .till i → AtLeast (done .epoch k) n d
-  -- K2: bytes times price, over packets, is seconds times rate times price, over epochs; L is a multiple of each D, and rates are in units of 1/L.
+  -- bytes times price, over packets, is seconds times rate times price, over epochs; L is a multiple of each D, and rates are in units of 1/L.
   -- With the rate itself as the price: the sum of size times rate is the sum of rate squared times length
-  pub K2 : (L : ℕ) (price : ℕ → ℕ → ℕ) → ((i n d : ℕ) → i < day .packets .count → done .packet i ≡ rate n d → d ∣ L)
+  pub priced-alike : (L : ℕ) (price : ℕ → ℕ → ℕ) → ((i n d : ℕ) → i < day .packets .count → done .packet i ≡ rate n d → d ∣ L)
       → priced price (day .packets) (done .packet) * L ≡ priced (λ n d. inUnits L n d * price n d) (day .epochs) (done .epoch)
-  -- H: for each fraction, the bytes inside [s, e) are at most the rate times the seconds inside [s, e)
-  pub H : (n d s e : ℕ) → carried (day .packets) (done .packet) n d s e * d ≤ n * carried (day .epochs) (done .epoch) n d s e
-  -- H, over all time: equality
-  pub H-all : (n d : ℕ) → carriedInAll (day .packets) (done .packet) n d * d ≡ n * carriedInAll (day .epochs) (done .epoch) n d
+  -- for each fraction, the bytes inside [s, e) are at most the rate times the seconds inside [s, e)
+  pub holds-inside : (n d s e : ℕ) → carried (day .packets) (done .packet) n d s e * d ≤ n * carried (day .epochs) (done .epoch) n d s e
+  -- over all time: equality
+  pub filled-in-all : (n d : ℕ) → carriedInAll (day .packets) (done .packet) n d * d ≡ n * carriedInAll (day .epochs) (done .epoch) n d
   -- each round has assigned a packet
   pub counted : done .rounds + remaining (day .packets) (done .packet) ≤ day .packets .count
 
@@ -136,10 +136,10 @@ module _ (day : Day) (proper : Proper day) where
         bounded = λ k n d h p. absurd (no-rate n d p);
         packet-rate = λ i n d h p. absurd (no-rate n d p);
         epoch-rate = λ k n d h p. absurd (no-rate n d p);
-        K1 = λ i k n d hi hk p. absurd (no-rate n d p);
-        K2 = λ L price h. rw (nothing-priced price (day .packets), nothing-priced (λ n d. inUnits L n d * price n d) (day .epochs)) (omega arith);
-        H = λ n d s e. rw (nothing-carried (day .packets) n d s e, nothing-carried (day .epochs) n d s e) (omega arith);
-        H-all = λ n d. rw (nothing-carried-at-all (day .packets) n d, nothing-carried-at-all (day .epochs) n d) (omega arith);
+        not-slower = λ i k n d hi hk p. absurd (no-rate n d p);
+        priced-alike = λ L price h. rw (nothing-priced price (day .packets), nothing-priced (λ n d. inUnits L n d * price n d) (day .epochs)) (omega arith);
+        holds-inside = λ n d s e. rw (nothing-carried (day .packets) n d s e, nothing-carried (day .epochs) n d s e) (omega arith);
+        filled-in-all = λ n d. rw (nothing-carried-at-all (day .packets) n d, nothing-carried-at-all (day .epochs) n d) (omega arith);
         counted = remaining-most (day .packets) (λ i. none);
       }
 
@@ -162,7 +162,7 @@ module _ (day : Day) (proper : Proper day) (done : Progress) (facts : Facts day 
   then' = giveRate day done s e N D
 
   long : 0 < m
-  long = facts .positive s e (best .candidate .holds)
+  long = facts .positive s e (best .holding .holds)
 
   D-some : 0 < D
   D-some = lowestD-positive l m long
@@ -174,7 +174,7 @@ module _ (day : Day) (proper : Proper day) (done : Progress) (facts : Facts day 
   before = lowest-bounds day done s e long best
 
   afterwards : Bounded day then' N D
-  afterwards = hull day proper done s e N D (best .candidate .data-interval) tight before N D
+  afterwards = hull day proper done s e N D (best .holding .data-interval) tight before N D
 
   -- densities never rise: what an epoch was given earlier is not lower
   pub never-rises : (k n d : ℕ) → k < day .epochs .count → done .epoch k ≡ rate n d → N * d ≤ n * D
@@ -188,7 +188,7 @@ module _ (day : Day) (proper : Proper day) (done : Progress) (facts : Facts day 
   in-range =
       record {
         lowest = lowest-is-lowest l m long;
-        n-some = lowestN-positive l m (best .candidate .holds);
+        n-some = lowestN-positive l m (best .holding .holds);
         n-most = le-trans (lowestN-small l m) (le-trans (left-all (day .packets) (done .packet) s e) (proper .bytes));
         d-some = D-some;
         d-most = le-trans (lowestD-small l m) (le-trans (left-all (day .epochs) (done .epoch) s e) (proper .seconds));
@@ -227,10 +227,10 @@ module _ (day : Day) (proper : Proper day) (done : Progress) (facts : Facts day 
       go (fresh u j q) = subst₂ (λ (x y : ℕ). RateInRange x y) (same-n (sym q ∙ p)) (same-d (sym q ∙ p)) in-range
       go (kept q) = old (sym q ∙ p)
 
-  K1' : (i k n d : ℕ) → i < day .packets .count → k < day .epochs .count → then' .packet i ≡ rate n d
+  not-slower' : (i k n d : ℕ) → i < day .packets .count → k < day .epochs .count → then' .packet i ≡ rate n d
       → day .packets .from i ≤ day .epochs .from k → day .epochs .till k ≤ day .packets .till i → AtLeast (then' .epoch k) n d
   unfolding giveRate
-  K1' i k n d hi hk p a b = go (ways (day .packets) s e N D (done .packet) i)
+  not-slower' i k n d hi hk p a b = go (ways (day .packets) s e N D (done .packet) i)
     where
       over : N ≡ n → D ≡ d → inside (day .epochs) s e k ≡ true → AtLeast (then' .epoch k) n d
       over x y j = there (unassigned (done .epoch k)) refl
@@ -257,7 +257,7 @@ module _ (day : Day) (proper : Proper day) (done : Progress) (facts : Facts day 
           let w = inside-true (day .packets) s e i j in
           over (same-n (sym q ∙ p)) (same-d (sym q ∙ p)) (inside-is (day .epochs) s e k (le-trans (w .0) a) (le-trans b (w .1)))
       go (kept q) =
-          let r = facts .K1 i k n d hi hk (sym q ∙ p) a b in
+          let r = facts .not-slower i k n d hi hk (sym q ∙ p) a b in
           record {
             rate-n = r .rate-n;
             rate-d = r .rate-d;
@@ -265,13 +265,13 @@ module _ (day : Day) (proper : Proper day) (done : Progress) (facts : Facts day 
             not-below = r .not-below;
           }
 
-  K2' : (L : ℕ) (price : ℕ → ℕ → ℕ) → ((i n d : ℕ) → i < day .packets .count → then' .packet i ≡ rate n d → d ∣ L)
+  priced-alike' : (L : ℕ) (price : ℕ → ℕ → ℕ) → ((i n d : ℕ) → i < day .packets .count → then' .packet i ≡ rate n d → d ∣ L)
       → priced price (day .packets) (then' .packet) * L ≡ priced (λ n d. inUnits L n d * price n d) (day .epochs) (then' .epoch)
   unfolding giveRate load len inUnits
-  K2' L price multiple =
-      let x = left-some (day .packets) (done .packet) s e (best .candidate .holds) in
+  priced-alike' L price multiple =
+      let x = left-some (day .packets) (done .packet) s e (best .holding .holds) in
       let whole : D ∣ L = multiple (x .0) N D (x .1) (assign-new (day .packets) s e N D (done .packet) (x .0) (x .2) (x .3)) in
-      let old = facts .K2 L price (λ i n d h p. multiple i n d h
+      let old = facts .priced-alike L price (λ i n d h p. multiple i n d h
       (assign-old (day .packets) s e N D (done .packet) i (none-unassigned (done .packet i) n d p) ∙ p)) in
       omega (
         arith,
@@ -282,25 +282,25 @@ module _ (day : Day) (proper : Proper day) (done : Progress) (facts : Facts day 
         ap (λ (y : ℕ). y * (price N D * (L / D))) tight,
       )
 
-  H' : (n d s' e' : ℕ) → carried (day .packets) (then' .packet) n d s' e' * d ≤ n * carried (day .epochs) (then' .epoch) n d s' e'
+  holds-inside' : (n d s' e' : ℕ) → carried (day .packets) (then' .packet) n d s' e' * d ≤ n * carried (day .epochs) (then' .epoch) n d s' e'
   unfolding giveRate
-  H' n d s' e' =
+  holds-inside' n d s' e' =
       rw (carried-after (day .packets) (done .packet) s e N D n d s' e', carried-after (day .epochs) (done .epoch) s e N D n d s' e')
-      (added (carries (rate N D) n d) n d N D _ _ _ _ (carries-same N D n d) (facts .H n d s' e') shared)
+      (added (carries (rate N D) n d) n d N D _ _ _ _ (carries-same N D n d) (facts .holds-inside n d s' e') shared)
     where
       shared : left (day .packets) (done .packet) (max s s') (min e e') * D ≤ N * left (day .epochs) (done .epoch) (max s s') (min e e')
       shared = unfold load len in before (max s s') (min e e')
 
-  H-all' : (n d : ℕ) → carriedInAll (day .packets) (then' .packet) n d * d ≡ n * carriedInAll (day .epochs) (then' .epoch) n d
+  filled-in-all' : (n d : ℕ) → carriedInAll (day .packets) (then' .packet) n d * d ≡ n * carriedInAll (day .epochs) (then' .epoch) n d
   unfolding giveRate
-  H-all' n d =
+  filled-in-all' n d =
       rw (carried-in-all-after (day .packets) (done .packet) s e N D n d, carried-in-all-after (day .epochs) (done .epoch) s e N D n d)
-      (added-all (carries (rate N D) n d) n d N D _ _ _ _ (carries-same N D n d) (facts .H-all n d) (unfold load len in tight))
+      (added-all (carries (rate N D) n d) n d N D _ _ _ _ (carries-same N D n d) (facts .filled-in-all n d) (unfold load len in tight))
 
   counted' : then' .rounds + remaining (day .packets) (then' .packet) ≤ day .packets .count
   unfolding giveRate load
   counted' =
-      let x = left-some (day .packets) (done .packet) s e (best .candidate .holds) in
+      let x = left-some (day .packets) (done .packet) s e (best .holding .holds) in
       omega (arith, facts .counted, remaining-fewer (day .packets) (done .packet) s e N D (x .0) (x .1) (x .2) (x .3))
 
   -- the facts hold again
@@ -312,10 +312,10 @@ module _ (day : Day) (proper : Proper day) (done : Progress) (facts : Facts day 
         bounded = bounded';
         packet-rate = λ i n d h p. rate-of (day .packets) (done .packet) i n d (facts .packet-rate i n d h) (unfold giveRate in p);
         epoch-rate = λ k n d h p. rate-of (day .epochs) (done .epoch) k n d (facts .epoch-rate k n d h) (unfold giveRate in p);
-        K1 = K1';
-        K2 = K2';
-        H = H';
-        H-all = H-all';
+        not-slower = not-slower';
+        priced-alike = priced-alike';
+        holds-inside = holds-inside';
+        filled-in-all = filled-in-all';
         counted = counted';
       }
 

@@ -1,5 +1,5 @@
 -- Bounded: in every interval, data or not, the load is at most N/D times the length.
--- A densest candidate bounds the state by its density, since any interval has the load of the smallest data interval around what it holds.
+-- A densest holding bounds the state by its density, since any interval has the load of the smallest data interval around what it holds.
 -- Hull: if the state is bounded by N/D and [s, e) is tight, the state stays bounded after [s, e) is taken. For an interval that meets [s, e), the hull
 -- of both has at least the load of both and at most their length; for one apart nothing changes. Assumes nothing.
 use Prim.Native.Nat.{ℕ, zero, suc, _*_, _<_, _≤_, _-_, min, max}
@@ -14,7 +14,7 @@ use Rattle.fractions.proofs.Euclid.{gcd-positive}
 use Rattle.fractions.proofs.LowestTerms.{load-is, length-is}
 use Rattle.policy.specs.Windows.{unassigned, inside, onlyIf, left, sum}
 use Rattle.policy.specs.Rounds.{Day, Progress, load, len, giveRate}
-use Rattle.policy.specs.Runs.{DataInterval, Candidate, Densest}
+use Rattle.policy.specs.Runs.{DataInterval, Holding, Densest}
 use borrow.Author.Tests.{ltb-true, lt-ltb}
 use lib.Dec.{ltb}
 use Rattle.policy.proofs.Sums.{none-above, sum-at, sum-some}
@@ -67,7 +67,7 @@ least (suc steps) n f t i q p h = go (decLt 0 (lower n f t i)) (least steps n f 
 record Around (day : Day) (done : Progress) (s e : ℕ) : Type 0 where
   from : ℕ
   till : ℕ
-  candidate : Candidate day done from till
+  holding : Holding day done from till
   no-less : load day done s e ≤ load day done from till
   no-longer : len day done from till ≤ len day done s e
 
@@ -91,7 +91,7 @@ around day done s e h =
     record {
       from = p .from (a .0);
       till = p .till (b .0);
-      candidate =
+      holding =
           record {
             data-interval = record { starter = a .0; starts = a .1; start = refl; ender = b .0; ends = b .1; end = refl };
             holds = le-trans h more;
@@ -100,7 +100,7 @@ around day done s e h =
       no-longer = left-wider (day .epochs) (done .epoch) (p .from (a .0)) (p .till (b .0)) s e (ai .0) (bi .1);
     }
 
--- a densest candidate bounds the load of every interval by its own
+-- a densest holding bounds the load of every interval by its own
 densest-bounds : (day : Day) (done : Progress) (s e : ℕ) → Densest day done s e → (s' e' : ℕ)
     → load day done s' e' * len day done s e ≤ load day done s e * len day done s' e'
 densest-bounds day done s e best s' e' = go (decLt 0 (load day done s' e'))
@@ -112,12 +112,12 @@ densest-bounds day done s e best s' e' = go (decLt 0 (load day done s' e'))
         let a = around day done s' e' h in
         omega (
           arith,
-          best .densest (a .from) (a .till) (a .candidate),
+          best .densest (a .from) (a .till) (a .holding),
           mul-le-mul-right (len day done s e) (a .no-less),
           mul-le-mul-left (load day done s e) (a .no-longer),
         )
 
--- the density of a densest candidate in lowest terms bounds the state
+-- the density of a densest holding in lowest terms bounds the state
 pub lowest-bounds : (day : Day) (done : Progress) (s e : ℕ) → 0 < len day done s e → Densest day done s e
     → Bounded day done (lowestN (load day done s e) (len day done s e)) (lowestD (load day done s e) (len day done s e))
 lowest-bounds day done s e pos best s' e' =

@@ -207,8 +207,8 @@ module _ (day : Day) (done : Progress) (count : ℕ) (from start passed arrivals
         none-left st nowhere p = refl
         none-left st (between s e) p =
             let b = pick-best day done positive s e p in
-            let d = b .candidate .data-interval in
-            absurd (st s e (d .starter, d .starts, sym (d .start), (d .ender, d .ends, sym (d .end))) (b .candidate .holds))
+            let d = b .holding .data-interval in
+            absurd (st s e (d .starter, d .starts, sym (d .start), (d .ender, d .ends, sym (d .end))) (b .holding .holds))
 
         go : (i : Interval) → Shows day done leader i → Standing day done (Among day (day .packets .count)) i → pick day done ≡ nowhere
         go _ (nobody q) st = none-left st (pick day done) refl

@@ -53,7 +53,7 @@ module _ (count : ℕ) (records : List ℕ) (accepted : Accepted count records) 
   unfolding outcomeOf
   outcome-run = after-runs (dayOf count records) (proper count records accepted) count
 
-  -- K1, K2, H, lowest terms and the bounds, of the rates of the list
+  -- not slower, priced alike, held inside, lowest terms and the bounds, of the rates of the list
   pub outcome-facts : Facts (dayOf count records) (outcomeOf count records)
   unfolding outcomeOf
   outcome-facts = after-facts (dayOf count records) (proper count records accepted) count

@@ -1,4 +1,4 @@
--- The pick, without recursion: it is a candidate that no candidate beats, and only one interval is so. The best so far stands before all that were
+-- The pick, without recursion: it is a holding that no holding beats, and only one interval is so. The best so far stands before all that were
 -- seen; one more interval seen keeps it or takes its place. Assumes nothing.
 use Prim.Native.Nat.{ℕ, zero, suc, _<_, _≤_}
 use mathlib.Core.Path.{_≡_, refl, sym, ap, subst, subst₂, _∙_}
@@ -11,7 +11,7 @@ use lib.Dec.{ltb}
 use borrow.Author.Tests.{ltb-true, lt-ltb}
 use Rattle.policy.specs.Windows.{choose, left, unassigned, inside, onlyIf}
 use Rattle.policy.specs.Rounds.{Day, Progress, load, len, beats, Interval, nowhere, between, leads, better, bestFrom, bestOf, pick}
-use Rattle.policy.specs.Runs.{DataInterval, Candidate, Best, Densest}
+use Rattle.policy.specs.Runs.{DataInterval, Holding, Best, Densest}
 use Rattle.policy.proofs.Sums.{sum-at}
 use Rattle.policy.proofs.Left.{both-true, not-both-ways, inside-is, onlyIf-le}
 use Rattle.policy.proofs.Proper.{Proper}
@@ -29,7 +29,7 @@ Positive day done = (s e : ℕ) → 0 < load day done s e → 0 < len day done s
 abbrev pub Standing : Day → Progress → (ℕ → ℕ → Type 0) → Interval → Type 0
 Standing day done Seen nowhere = (s e : ℕ) → Seen s e → 0 < load day done s e → ⊥
 Standing day done Seen (between s e) =
-    Candidate day done s e ×
+    Holding day done s e ×
     ((s' e' : ℕ) → Seen s' e' → 0 < load day done s' e' → Behind (figures day done s' e') (figures day done s e))
 
 -- one more seen
@@ -167,7 +167,7 @@ module _ (day : Day) (done : Progress) (positive : Positive day done) where
   unfolding beats
   standing-best s e h =
       record {
-        candidate = h .0;
+        holding = h .0;
         unbeaten = λ s' e' c.
             behind-before (figures day done s' e') (figures day done s e) (h .1 s' e' (among s' e' (c .data-interval)) (c .holds));
       }
@@ -177,8 +177,8 @@ module _ (day : Day) (done : Progress) (positive : Positive day done) where
   unfolding beats
   best-one s e s' e' b b' =
       behind-both (figures day done s e) (figures day done s' e')
-      (before-behind (figures day done s e) (figures day done s' e') (b' .unbeaten s e (b .candidate)))
-      (before-behind (figures day done s' e') (figures day done s e) (b .unbeaten s' e' (b' .candidate)))
+      (before-behind (figures day done s e) (figures day done s' e') (b' .unbeaten s e (b .holding)))
+      (before-behind (figures day done s' e') (figures day done s e) (b .unbeaten s' e' (b' .holding)))
 
   -- the pick is the best
   pub pick-best : (s e : ℕ) → pick day done ≡ between s e → Best day done s e
@@ -198,7 +198,7 @@ module _ (day : Day) (done : Progress) (positive : Positive day done) where
   best-pick s e b = go (pick day done) refl
     where
       go : (x : Interval) → pick day done ≡ x → x ≡ between s e
-      go nowhere p = absurd (pick-none p s e (b .candidate .data-interval) (b .candidate .holds))
+      go nowhere p = absurd (pick-none p s e (b .holding .data-interval) (b .holding .holds))
       go (between s' e') p = let q = best-one s' e' s e (pick-best s' e' p) b in rw (q .0, q .1) refl
 
   -- the best is densest
@@ -206,7 +206,7 @@ module _ (day : Day) (done : Progress) (positive : Positive day done) where
   unfolding beats
   best-densest s e b =
       record {
-        candidate = b .candidate;
+        holding = b .holding;
         densest = λ s' e' c.
             behind-density (figures day done s' e') (figures day done s e)
             (before-behind (figures day done s' e') (figures day done s e) (b .unbeaten s' e' c));
@@ -225,7 +225,7 @@ packet-loads day proper done s e i h u v =
 
 -- the window of an unassigned packet is a data interval that holds it
 pub own-window : (day : Day) → Proper day → (done : Progress) (i : ℕ) → i < day .packets .count → unassigned (done .packet i) ≡ true
-    → Candidate day done (day .packets .from i) (day .packets .till i)
+    → Holding day done (day .packets .from i) (day .packets .till i)
 own-window day proper done i h u =
     record {
       data-interval = record { starter = i; starts = h; start = refl; ender = i; ends = h; end = refl };

@@ -16,19 +16,19 @@ pub record DataInterval (day : Day) (s e : ℕ) : Type 0 where
   pub end : day .packets .till ender ≡ e
 
 -- [s, e) is a data interval that holds an unassigned packet, and so a byte of load
-pub record Candidate (day : Day) (done : Progress) (s e : ℕ) : Type 0 where
+pub record Holding (day : Day) (done : Progress) (s e : ℕ) : Type 0 where
   pub data-interval : DataInterval day s e
   pub holds : 0 < load day done s e
 
--- the pick: a candidate that no candidate beats
+-- the pick: no interval that holds an unassigned packet beats it
 pub record Best (day : Day) (done : Progress) (s e : ℕ) : Type 0 where
-  pub candidate : Candidate day done s e
-  pub unbeaten : (s' e' : ℕ) → Candidate day done s' e' → beats day done s' e' s e ≡ false
+  pub holding : Holding day done s e
+  pub unbeaten : (s' e' : ℕ) → Holding day done s' e' → beats day done s' e' s e ≡ false
 
--- a candidate that is as dense as any
+-- as dense as any that holds an unassigned packet
 pub record Densest (day : Day) (done : Progress) (s e : ℕ) : Type 0 where
-  pub candidate : Candidate day done s e
-  pub densest : (s' e' : ℕ) → Candidate day done s' e'
+  pub holding : Holding day done s e
+  pub densest : (s' e' : ℕ) → Holding day done s' e'
       → load day done s' e' * len day done s e ≤ load day done s e * len day done s' e'
 
 -- what rounds that each take some densest interval come to

@@ -1,6 +1,6 @@
 -- Earliest deadline first is never late, and fills every epoch that carries a rate. For a fraction N/D, the units unsent of its packets due by e are at
 -- every event point at most N times the seconds of its epochs still to come up to e. Over an epoch both sides lose the same, or every packet due by e that has
--- arrived is finished, and H bounds what is to arrive. At the end nothing is unsent; and as no epoch takes more than it holds, each is full. Assumes nothing.
+-- arrived is finished, and `holds-inside` bounds what is to arrive. At the end nothing is unsent; and as no epoch takes more than it holds, each is full. Assumes nothing.
 use Prim.Native.Nat.{ℕ, zero, suc, _+_, _-_, _*_, _<_, _≤_}
 use mathlib.Core.Path.{_≡_, refl, sym, ap, subst₂, _∙_}
 use mathlib.Core.Bool.{Bool, true, false, _&&_}
@@ -83,7 +83,7 @@ module _ (day : Day) (rates : Progress) (r : Rated day rates) where
       → over (day .packets .count) (due day rates n d e) u ≤ n * cap day rates n d e k
   unfolding over cap
   to-arrive n d e s k u most later from =
-      le-trans bytes (le-trans (r .facts .H n d s e) (mul-le-mul-left n secs))
+      le-trans bytes (le-trans (r .facts .holds-inside n d s e) (mul-le-mul-left n secs))
     where
       one : (i : ℕ) → i < day .packets .count → (b : Bool) → due day rates n d e i ≡ b → Dec (u i ≤ 0)
           → onlyIf b (u i) ≤ onlyIf (carries (rates .packet i) n d && inside (day .packets) s e i) (day .packets .weight i) * d
@@ -381,7 +381,7 @@ module _ (day : Day) (rates : Progress) (r : Rated day rates) where
     where
       whole : sum (day .packets .count) (λ i. onlyIf (carries (rates .packet i) n d) (day .packets .weight i)) * d
           ≡ n * sum (day .epochs .count) (λ j. onlyIf (carries (rates .epoch j) n d) (day .epochs .weight j))
-      whole = unfold carriedInAll in r .facts .H-all n d
+      whole = unfold carriedInAll in r .facts .filled-in-all n d
 
       bytes : (i : ℕ) (b : Bool) → same rates n d i ≡ b → onlyIf b (unitsOf day rates i) ≡ onlyIf b (day .packets .weight i) * d
       bytes i true m = unfold onlyIf in units-are i n d m
