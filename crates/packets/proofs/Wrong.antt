@@ -11,6 +11,7 @@ use Rattle.packets.specs.declared.refusal.Refusal.the-variants.{Deadline
 use Rattle.packets.specs.declared.judge.Verdict.the-variants.{Refused}
 use Rattle.packets.specs.declared.list.ListAnswer.the-variants as list-answer
 use Rattle.packets.specs.declared.list.WrittenAnswer.{WrittenAnswer}
+use Rattle.packets.specs.declared.list.WrittenAnswer.the-variants as written-answer
 use Rattle.packets.specs.Outcome.{verdictOf, _when_else_, _then_, inOrder, _given_else_}
 use Rattle.packets.specs.Records.{sizeOf, arrivalOf, deadlineOf, recordTest, recordAt, recordTests, memoryTests}
 use Rattle.packets.specs.List.{listBytes, countOn, recordsOn, unusedOn, wireTests, roomTest, readOutcome, recordsAfter, restAfter, writeOutcome, bytesAfter, ListJudged, ListRead, ListWritten}
@@ -30,6 +31,11 @@ faultyB = 0x02 ∷ 0x00 ∷ 0x02 ∷ 0x00 ∷ 0x00 ∷ 0x00 ∷ 0x00 ∷ 0xc0 �
 not-deadline-first : verdictOf (Refused (Deadline 0)) ≡ memoryTests 1 (0 ∷ 0 ∷ 86401 ∷ []) → ⊥
 unfolding memoryTests recordTests recordAt inOrder recordTest sizeOf arrivalOf deadlineOf _when_else_ _then_
 not-deadline-first e = let z : _≡_ {A = ℕ} 5 4 = cc in omega arith
+
+-- a judge that refuses everything, whatever its refusal
+judge-not-refused : (refusal : Refusal) → verdictOf (Refused refusal) ≡ memoryTests 1 (1 ∷ 0 ∷ 1 ∷ []) → ⊥
+unfolding memoryTests recordTests recordAt inOrder recordTest sizeOf arrivalOf deadlineOf _when_else_ _then_
+judge-not-refused refusal e = refusal-gives refusal [] e
 
 -- a reader that accepts a list with a nonzero unused bit, whatever it says of it
 not-unused-bit : (count bytes : ℕ) → ListJudged faultyB 3 (list-answer.Packets count bytes) → ⊥
@@ -60,6 +66,11 @@ not-one-too-many after p = let z : _≡_ {A = ℕ} 2 1 = ap length (p .0) in ome
 not-behind : (answer : WrittenAnswer) → ListWritten 1 (1 ∷ 0 ∷ 1 ∷ []) behindB answer (0x02 ∷ 0x00 ∷ 0x02 ∷ 0x00 ∷ 0x00 ∷ 0x00 ∷ 0x00 ∷ 0x80 ∷ 0x00 ∷ []) → ⊥
 unfolding digit bit spelt fieldAt bytesFrom replaced putField total rows fieldsAt putFields fieldWidths tableWidths tableBytes unusedAt writeTable _when_else_ _then_ _given_else_ sizeOf arrivalOf deadlineOf recordTest recordAt recordTests inOrder memoryTests listBytes writeOutcome bytesAfter
 not-behind answer p = let z : _≡_ {A = ℕ} 0 0x55 = ap (λ (l : List ℕ). getD l 8 0) (p .1) in omega arith
+
+-- a writer that refuses everything, whatever its refusal
+write-not-refused : (refusal : Refusal) (after : List ℕ) → ListWritten 1 (1 ∷ 0 ∷ 1 ∷ []) listB (written-answer.Refused refusal) after → ⊥
+unfolding digit bit spelt fieldAt bytesFrom replaced putField total rows fieldsAt putFields fieldWidths tableWidths tableBytes unusedAt writeTable _when_else_ _then_ _given_else_ sizeOf arrivalOf deadlineOf recordTest recordAt recordTests inOrder memoryTests listBytes writeOutcome bytesAfter
+write-not-refused refusal after p = refusal-gives refusal (8 ∷ []) (p .0)
 
 -- a writer that writes nothing
 not-nothing : (answer : WrittenAnswer) → ListWritten 1 (1 ∷ 0 ∷ 1 ∷ []) (0 ∷ 0 ∷ 0 ∷ 0 ∷ 0 ∷ 0 ∷ 0 ∷ 0 ∷ []) answer (0 ∷ 0 ∷ 0 ∷ 0 ∷ 0 ∷ 0 ∷ 0 ∷ 0 ∷ []) → ⊥
