@@ -8,6 +8,7 @@ use native.Mathlib.Omega.{arith}
 use lib.Dec.{lit<}
 use Rattle.packets.specs.Outcome.{Outcome, gives, refuses, _when_else_, _then_, inOrder}
 use Rattle.packets.specs.Records.{recordTest, recordAt, recordTests, memoryTests}
+use Rattle.packets.specs.Wire.{tableTests}
 use Rattle.packets.specs.List as lists
 use Rattle.policy.specs.Answer.{ratesOutcome}
 use Rattle.timetable.specs.Answer.{timetablesOutcome}
@@ -69,7 +70,7 @@ unfolding memoryTests
 judge-packets-numbered count records = search (laws, records-numbered) depth 12
 
 pub read-list-numbered : (bytes : List ℕ) (room : ℕ) → Numbered (lists.readOutcome bytes room)
-unfolding lists.readOutcome lists.wireTests lists.roomTest
+unfolding lists.readOutcome tableTests lists.roomTest
 read-list-numbered bytes room = search (laws, records-numbered) depth 12
 
 pub write-list-numbered : (count : ℕ) (records : List ℕ) (room : ℕ) → Numbered (lists.writeOutcome count records room)
@@ -85,11 +86,11 @@ unfolding timetablesOutcome
 timetables-numbered count records room = search (laws, judge-packets-numbered) depth 12
 
 pub plan-list-numbered : (list : List ℕ) (room : ℕ) → Numbered (planOutcome list room)
-unfolding planOutcome packetsOutcome lists.wireTests
+unfolding planOutcome packetsOutcome tableTests
 plan-list-numbered list room = search (laws, records-numbered) depth 12
 
 pub read-plan-numbered : (plan : List ℕ) (room : ℕ) → Numbered (plans.readOutcome plan room)
-unfolding plans.readOutcome plans.wireTests plans.roomTest
+unfolding plans.readOutcome tableTests plans.roomTest
 read-plan-numbered plan room = search (laws, entries-numbered) depth 12
 
 pub write-plan-numbered : (count : ℕ) (entries : List ℕ) (cost room : ℕ) → Numbered (plans.writeOutcome count entries cost room)

@@ -1,4 +1,5 @@
 pub mod Outcomes
+pub mod Wire
 pub mod Records
 pub mod Lists
 pub mod Answers

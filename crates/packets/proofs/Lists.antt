@@ -6,8 +6,8 @@ use native.Mathlib.Omega.{arith}
 use native.Mathlib.Nat.{zero-add}
 use lib.ListN.{length, take, drop, length-drop}
 use lib.Seq.{sets, sets-eq, take-all}
-use lib.Dec.{eqb, ltb}
-use borrow.Author.Tests.{eqb-false, ltb-false, lt-ltb, le-ltb}
+use lib.Dec.{ltb}
+use borrow.Author.Tests.{ltb-false, lt-ltb, le-ltb}
 use Rattle.bits.specs.Field.{fieldAt}
 use Rattle.bits.specs.Table.{total, rows, fieldsAt, unusedBits, fieldWidths, tableBytes, unusedAt, writeTable, AtMost}
 use Rattle.bits.proofs.Tables.{total-rows, length-rows, length-fields}
@@ -18,6 +18,7 @@ use Rattle.packets.specs.Records.{recordNumbers, recordTests, memoryTest
 use Rattle.packets.specs.List.{countWidth, recordWidths, listBytes, countOn, recordsOn, unusedOn, wireTests, roomTest, readOutcome, recordsAfter, restAfter, writeOutcome, bytesAfter}
 use Rattle.packets.specs.declared.refusal.Refusal.{Refusal}
 use Rattle.packets.proofs.Outcomes.{when-gives, then-gives, refused-then, passed-then, given-leaves, refused-leaves}
+use Rattle.packets.proofs.Wire.{Whole, wire-whole}
 use Rattle.packets.proofs.Records.{tests-pass, records-sound}
 
 -- ---- the bits of a list
@@ -37,11 +38,11 @@ unfolding fieldWidths total
 list-total count = omega (arith, records-total count)
 
 pub list-bytes-is : (count : ℕ) → listBytes count ≡ (7 + 50 * count + 7) / 8
-unfolding listBytes tableBytes
+unfolding tableBytes
 list-bytes-is count = rw list-total
 
 pub unused-is : (bytes : List ℕ) → unusedOn bytes ≡ fieldAt bytes (7 + 50 * countOn bytes) (unusedBits (7 + 50 * countOn bytes))
-unfolding unusedOn unusedAt
+unfolding unusedAt
 unused-is bytes = rw list-total
 
 -- no field of a list is wider than 64 bits
@@ -62,31 +63,8 @@ length-records bytes count = length-fields bytes countWidth (rows count recordWi
 -- ---- what passing tells
 
 -- bytes that hold a whole list, with zero in its unused bits
-pub record Whole (bytes : List ℕ) : Type 0 where
-  pub some : 0 < countOn bytes
-  pub few : countOn bytes ≤ mostPackets
-  pub held : listBytes (countOn bytes) ≤ length bytes
-  pub clear : unusedOn bytes ≡ 0
-
-pub wire-whole : (bytes : List ℕ) (values : List ℕ) → wireTests bytes ≡ gives values → (values ≡ []) × Whole bytes
-unfolding wireTests
-wire-whole bytes values h =
-    let a = when-gives 1 0 (eqb (length bytes) 0) refl h in
-    let b = when-gives 2 0 (eqb (countOn bytes) 0) refl (a .1) in
-    let d = when-gives 3 0 (ltb mostPackets (countOn bytes)) refl (b .1) in
-    let e = when-gives 1 0 (ltb (length bytes) (listBytes (countOn bytes))) refl (d .1) in
-    let f = when-gives 7 0 (ltb 0 (unusedOn bytes)) refl (e .1) in
-    let z : countOn bytes ≡ 0 → ⊥ = eqb-false _ _ (b .0) in
-    let u : unusedOn bytes ≤ 0 = ltb-false _ _ (f .0) in
-    let v : gives [] ≡ gives values = f .1 in (
-      cc,
-      record {
-        some = omega arith;
-        few = ltb-false _ _ (d .0);
-        held = ltb-false _ _ (e .0);
-        clear = omega arith;
-      },
-    )
+abbrev pub WholeList : List ℕ → Type 0
+WholeList bytes = Whole (countWidth ∷ []) recordWidths mostPackets bytes
 
 -- ---- the answer of reading, test by test
 
@@ -114,7 +92,7 @@ module _ (bytes : List ℕ) (room : ℕ) where
 
 -- a list that is read: whole, its records sound, and room for them
 pub record Readable (bytes : List ℕ) (room : ℕ) (values : List ℕ) : Type 0 where
-  pub whole : Whole bytes
+  pub whole : WholeList bytes
   pub sound : recordTests (countOn bytes) 0 (recordsOn bytes) ≡ gives []
   pub held : recordNumbers * countOn bytes ≤ room
   pub told : values ≡ countOn bytes ∷ listBytes (countOn bytes) ∷ []
@@ -126,7 +104,7 @@ read-readable bytes room values h =
     let b = then-gives (recordTests (countOn bytes) 0 (recordsOn bytes)) _ (a .2) in
     let d = when-gives 8 0 (ltb room (recordNumbers * countOn bytes)) refl (b .2) in
     record {
-      whole = wire-whole bytes (a .0) (a .1) .1;
+      whole = wire-whole _ _ _ _ _ _ bytes (a .0) (a .1) .1;
       sound = tests-pass (countOn bytes) 0 (recordsOn bytes) (b .0) (b .1);
       held = ltb-false _ _ (d .0);
       told = let e : gives (countOn bytes ∷ listBytes (countOn bytes) ∷ []) ≡ gives values = d .1 in cc;
@@ -216,7 +194,7 @@ write-undone count records lent refusal e = sym (refused-leaves refusal _ _ e)
 pub packets-accepted : (bytes own values : List ℕ) → wireTests bytes ≡ gives own → recordTests (countOn bytes) 0 (recordsOn bytes) ≡ gives values
     → Accepted (countOn bytes) (recordsOn bytes)
 packets-accepted bytes own values wire tests =
-    let w = wire-whole bytes own wire .1 in
+    let w = wire-whole _ _ _ _ _ _ bytes own wire .1 in
     let long : length (recordsOn bytes) ≡ recordNumbers * countOn bytes = (unfold recordsOn in (length-records bytes (countOn bytes))) in
     record {
       some = w .some;
@@ -231,7 +209,7 @@ pub read-passes : (bytes : List ℕ) (room : ℕ) (values : List ℕ) → readOu
 unfolding readOutcome
 read-passes bytes room values h =
     let a = then-gives (wireTests bytes) _ h in
-    let w = wire-whole bytes (a .0) (a .1) in
+    let w = wire-whole _ _ _ _ _ _ bytes (a .0) (a .1) in
     let r = read-readable bytes room values (unfold readOutcome in h) in
     (sym (a .1 ∙ ap gives (w .0)), sym (r .sound), packets-accepted bytes (a .0) [] (a .1) (r .sound))
 
@@ -251,5 +229,5 @@ read-refused bytes refusal next e = by-wire (wireTests bytes) refl
     by-wire : (tests : Outcome) → wireTests bytes ≡ tests → refusalOf refusal ≡ (wireTests bytes then recordTests (countOn bytes) 0 (recordsOn bytes) then next)
     by-wire (refuses n p) t = rw t (rw t at e)
     by-wire (gives v) t =
-        let w = wire-whole bytes v t in
+        let w = wire-whole _ _ _ _ _ _ bytes v t in
         rw t (by-records (w .1 .few) (recordTests (countOn bytes) 0 (recordsOn bytes)) refl (rw t at e))

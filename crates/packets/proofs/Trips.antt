@@ -8,14 +8,15 @@ use lib.ListN.{length, getD, take, drop, length-append, take-append-drop}
 use lib.Seq.{drop-cons, take-at, length-take-le}
 use borrow.Author.Tests.{ne-eqb, le-ltb}
 use Rattle.bits.specs.Field.{Bytes}
-use Rattle.bits.specs.Table.{rows, fieldsAt, fieldWidths, readTable, unusedAt, writeTable, Fit}
-use Rattle.bits.proofs.Tables.{write-read, length-write, write-behind, read-write, read-front}
+use Rattle.bits.specs.Table.{rows, fieldsAt, fieldWidths, readTable, writeTable, Fit}
+use Rattle.bits.proofs.Tables.{write-read, write-behind, read-write}
 use Rattle.packets.specs.Outcome.{gives, _when_else_}
 use Rattle.packets.specs.Records.{recordNumbers, sizeOf, arrivalOf, deadlineOf, recordTests, memoryTests, Sound, Accepted}
-use Rattle.packets.specs.List.{countWidth, recordWidths, listBytes, countOn, recordsOn, unusedOn, wireTests, roomTest, readOutcome, recordsAfter, restAfter, writeOutcome, bytesAfter}
+use Rattle.packets.specs.List.{countWidth, recordWidths, listBytes, countOn, recordsOn, wireTests, roomTest, readOutcome, recordsAfter, restAfter, writeOutcome, bytesAfter}
 use Rattle.packets.proofs.Outcomes.{passed-then, given-leaves}
+use Rattle.packets.proofs.Wire.{whole-wire, written-whole, front-same}
 use Rattle.packets.proofs.Records.{tests-past, records-sound, accepted-memory}
-use Rattle.packets.proofs.Lists.{Readable, read-readable, list-bytes-is, length-records, write-gives}
+use Rattle.packets.proofs.Lists.{WholeList, Readable, read-readable, length-records, write-gives}
 
 -- ---- written and read back
 
@@ -67,45 +68,23 @@ module _ (count : ℕ) (records lent : List ℕ) (accepted : Accepted count reco
   unfolding fieldWidths
   fits = (omega (arith, accepted .few), fit-records count 0 records (omega (arith, accepted .held)) (λ k lo hi. accepted .sound k (omega arith)))
 
-  -- the written bytes hold the count, the records, and zero in the unused bits
-  back : (readTable written (countWidth ∷ []) recordWidths count ≡ count ∷ take (recordNumbers * count) records)
-      × (unusedAt written (countWidth ∷ []) recordWidths count ≡ 0)
-  unfolding listBytes written
-  back = write-read (countWidth ∷ []) recordWidths count lent (count ∷ take (recordNumbers * count) records) long fits
+  -- the written bytes are a whole list, and hold the count and the records
+  whole-back : (countOn written ≡ count) × WholeList written
+  unfolding written
+  whole-back = written-whole _ _ _ _ 2 3 count (take (recordNumbers * count) records) lent fits long (accepted .some) (accepted .few)
 
   count-back : countOn written ≡ count
-  count-back = let e = sym (table-list written count) ∙ back .0 in cc
+  count-back = whole-back .0
 
   records-back : recordsOn written ≡ take (recordNumbers * count) records
-  unfolding recordsOn
-  records-back = let e = sym (table-list written count) ∙ back .0 in rw count-back (tail-same e)
-    where
-      tail-same : {x y : ℕ} {a b : List ℕ} → x ∷ a ≡ y ∷ b → a ≡ b
-      tail-same e = ap (drop 1) e
-
-  unused-back : unusedOn written ≡ 0
-  unfolding unusedOn
-  unused-back = rw count-back (back .1)
-
-  length-back : length written ≡ length lent
-  unfolding written
-  length-back = length-write (countWidth ∷ []) recordWidths count lent _
-
-  wire-back : wireTests written ≡ gives []
-  unfolding wireTests _when_else_
-  wire-back =
-      let used = list-bytes-is count in
-      let z : length written ≡ 0 → ⊥ = λ (e : length written ≡ 0). omega (arith, length-back) in
-      let y : count ≡ 0 → ⊥ = λ (e : count ≡ 0). omega (arith, accepted .some) in
-      let h : listBytes count ≤ length written = omega (arith, length-back) in
-      let u : unusedOn written ≤ 0 = omega (arith, unused-back) in
-      rw count-back (simp (ne-eqb _ _ z, ne-eqb _ _ y, le-ltb _ _ (accepted .few), le-ltb _ _ h, le-ltb _ _ u))
+  unfolding recordsOn written
+  records-back = rw count-back (ap (drop 1) (sym (table-list written count) ∙ write-read (countWidth ∷ []) recordWidths count lent _ long fits .0))
 
   -- reading gives the same packets: their count, the bytes that they take, and their records
   write-then-read : (room : ℕ) → recordNumbers * count ≤ room → readOutcome written room ≡ gives (count ∷ listBytes count ∷ [])
   unfolding readOutcome roomTest _when_else_
   write-then-read room held =
-      passed-then _ (sym wire-back)
+      passed-then _ (sym (whole-wire _ _ _ _ _ _ (omega arith) written (whole-back .1)))
       ∙ passed-then _ (sym (rw (count-back, records-back) (first-tests count records accepted)))
       ∙ rw count-back (simp (le-ltb _ _ held))
 
@@ -126,7 +105,7 @@ module _ (count : ℕ) (records lent : List ℕ) (accepted : Accepted count reco
       )
     where
       behind : drop (listBytes count) written ≡ drop (listBytes count) lent
-      behind = (unfold listBytes in (write-behind (countWidth ∷ []) recordWidths count lent _ small long))
+      behind = write-behind (countWidth ∷ []) recordWidths count lent _ small long
 
 -- ---- read and written again
 
@@ -175,20 +154,9 @@ module _ (bytes room out : List ℕ) (small : Bytes bytes) (small-out : Bytes ou
 
       again : writeTable out (countWidth ∷ []) recordWidths (countOn bytes) (readTable bytes (countWidth ∷ []) recordWidths (countOn bytes))
           ≡ take (listBytes (countOn bytes)) bytes ++ drop (listBytes (countOn bytes)) out
-      again =
-          (unfold listBytes unusedOn in (read-write (countWidth ∷ []) recordWidths (countOn bytes) bytes out small small-out (read .whole .held) long (read .whole .clear)))
+      again = read-write (countWidth ∷ []) recordWidths (countOn bytes) bytes out small small-out (read .whole .held) long (read .whole .clear)
 
 -- ---- what stands behind a list
-
--- the tests of the bytes ask nothing of them but the count, the unused bits, and that the list is whole
-wire-same : (a b : List ℕ) → countOn a ≡ countOn b → unusedOn a ≡ unusedOn b → listBytes (countOn a) ≤ length a → listBytes (countOn a) ≤ length b
-    → wireTests a ≡ wireTests b
-unfolding wireTests _when_else_
-wire-same a b count unused long-a long-b =
-    let used = list-bytes-is (countOn a) in
-    let z : length a ≡ 0 → ⊥ = λ (e : length a ≡ 0). omega arith in
-    let y : length b ≡ 0 → ⊥ = λ (e : length b ≡ 0). omega arith in
-    rw (← count, ← unused) (simp (ne-eqb _ _ z, ne-eqb _ _ y, le-ltb _ _ long-a, le-ltb _ _ long-b))
 
 -- bytes that agree as far as a whole list goes are read alike: nothing behind the list has any influence
 pub nothing-behind : (a b : List ℕ) (room : ℕ) → listBytes (countOn a) ≤ length a → listBytes (countOn a) ≤ length b
@@ -196,27 +164,13 @@ pub nothing-behind : (a b : List ℕ) (room : ℕ) → listBytes (countOn a) ≤
     → (readOutcome a room ≡ readOutcome b room) × (recordsOn a ≡ recordsOn b)
 nothing-behind a b room long-a long-b front = (outcome, records)
   where
-    n : ℕ
-    n = countOn a
-
-    same : (readTable a (countWidth ∷ []) recordWidths n ≡ readTable b (countWidth ∷ []) recordWidths n)
-        × (unusedAt a (countWidth ∷ []) recordWidths n ≡ unusedAt b (countWidth ∷ []) recordWidths n)
-    same = (unfold listBytes in (read-front (countWidth ∷ []) recordWidths n a b front))
-
-    both : countOn a ∷ fieldsAt a countWidth (rows n recordWidths) ≡ countOn b ∷ fieldsAt b countWidth (rows n recordWidths)
-    both = sym (table-list a n) ∙ same .0 ∙ table-list b n
-
-    count : countOn b ≡ n
-    count = cc both
+    same : (countOn b ≡ countOn a)
+        × (readTable a (countWidth ∷ []) recordWidths (countOn a) ≡ readTable b (countWidth ∷ []) recordWidths (countOn a))
+        × (wireTests a ≡ wireTests b)
+    same = front-same _ _ _ _ _ _ (omega arith) a b long-a long-b front
 
     records : recordsOn a ≡ recordsOn b
-    records = (unfold recordsOn in (rw count (ap (drop 1) both)))
-
-    unused : unusedOn a ≡ unusedOn b
-    unused = (unfold unusedOn in (rw count (same .1)))
-
-    wire : wireTests a ≡ wireTests b
-    wire = wire-same a b (sym count) unused long-a long-b
+    records = (unfold recordsOn in (rw (same .0) (ap (drop 1) (sym (table-list a (countOn a)) ∙ same .1 ∙ table-list b (countOn a)))))
 
     outcome : readOutcome a room ≡ readOutcome b room
-    outcome = (unfold readOutcome roomTest in (rw (wire, records, count)))
+    outcome = (unfold readOutcome roomTest in (rw (same .2, records, same .0)))

@@ -1,4 +1,5 @@
 pub mod Limits
 pub mod Outcome
+pub mod Wire
 pub mod Records
 pub mod List

@@ -4,11 +4,11 @@ use Prim.Native.Nat.{ℕ, _*_}
 use mathlib.Core.Path.{_≡_}
 use mathlib.Core.List.{List, [], _∷_, _++_}
 use lib.ListN.{length, take, drop}
-use lib.Dec.{eqb, ltb}
-use Rattle.bits.specs.Field.{fieldAt}
+use lib.Dec.{ltb}
 use Rattle.bits.specs.Table.{rows, fieldsAt, tableBytes, unusedAt, writeTable}
 use Rattle.packets.specs.Limits.{mostPackets}
 use Rattle.packets.specs.Outcome.{Outcome, gives, refuses, _when_else_, _then_, _given_else_, listAnswerOf, writtenAnswerOf}
+use Rattle.packets.specs.Wire.{countAt, tableTests}
 use Rattle.packets.specs.declared.list.ListAnswer.{ListAnswer}
 use Rattle.packets.specs.declared.list.WrittenAnswer.{WrittenAnswer}
 use Rattle.packets.specs.Records.{recordNumbers, recordTests, memoryTests}
@@ -22,32 +22,26 @@ abbrev pub recordWidths : List ℕ
 recordWidths = 16 ∷ 17 ∷ 17 ∷ []
 
 -- the bytes that a list of so many packets takes (bytes)
-unfoldable pub listBytes : ℕ → ℕ
+abbrev pub listBytes : ℕ → ℕ
 listBytes count = tableBytes (countWidth ∷ []) recordWidths count
 
 -- ---- reading
 
 -- the count at the front of the bytes (packets)
-unfoldable pub countOn : List ℕ → ℕ
-countOn bytes = fieldAt bytes 0 countWidth
+abbrev pub countOn : List ℕ → ℕ
+countOn bytes = countAt bytes (countWidth ∷ [])
 
 -- the records behind it, as numbers
 unfoldable pub recordsOn : List ℕ → List ℕ
 recordsOn bytes = fieldsAt bytes countWidth (rows (countOn bytes) recordWidths)
 
 -- what stands in the unused bits of the list's last byte
-unfoldable pub unusedOn : List ℕ → ℕ
+abbrev pub unusedOn : List ℕ → ℕ
 unusedOn bytes = unusedAt bytes (countWidth ∷ []) recordWidths (countOn bytes)
 
--- the tests of the bytes alone: no bytes (1), 2, 3, 1, 7
-unfoldable pub wireTests : List ℕ → Outcome
-wireTests bytes =
-    refuses 1 0 when eqb (length bytes) 0 else
-    refuses 2 0 when eqb (countOn bytes) 0 else
-    refuses 3 0 when ltb mostPackets (countOn bytes) else
-    refuses 1 0 when ltb (length bytes) (listBytes (countOn bytes)) else
-    refuses 7 0 when ltb 0 (unusedOn bytes) else
-    gives []
+-- the tests of the bytes alone, those of any table (Wire): no bytes (1), 2, 3, 1, 7
+abbrev pub wireTests : List ℕ → Outcome
+wireTests bytes = tableTests (countWidth ∷ []) recordWidths mostPackets 2 3 bytes
 
 -- the test of the room for the records (numbers), and what a list that is read gives: its packets, and the bytes that it takes
 unfoldable pub roomTest : List ℕ → ℕ → Outcome

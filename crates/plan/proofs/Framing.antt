@@ -12,9 +12,11 @@ use Rattle.bits.specs.Field.{fieldAt}
 use Rattle.bits.specs.Table.{total, rows, fieldsAt, unusedBits, fieldWidths, tableBytes, unusedAt, writeTable, AtMost}
 use Rattle.bits.proofs.Tables.{total-rows, length-rows, length-fields}
 use Rattle.packets.specs.Outcome.{gives, _when_else_, refusalOf}
+use Rattle.packets.specs.Wire.{tableTests}
 use Rattle.packets.specs.declared.refusal.Refusal.{Refusal}
 use Rattle.packets.specs.declared.refusal.Refusal.the-variants.{Short, NoRoom}
 use Rattle.packets.proofs.Outcomes.{when-gives, then-gives, refused-then, passed-then, given-leaves, refused-leaves}
+use Rattle.packets.proofs.Wire.{Whole, wire-whole}
 use Rattle.plan.specs.Entries.{mostEntries, entryNumbers, entryWidths, entryTests}
 use Rattle.plan.specs.Frame.{headBytes, countWidth, costWidth, headWidths, frameBytes, countOn, costOn, entriesOn, unusedOn, wireTests, roomTest, readOutcome, entriesAfter, memoryTests, writeOutcome, framed, frameAfter}
 use Rattle.plan.proofs.Judging.{tests-pass}
@@ -37,7 +39,7 @@ unfolding tableBytes
 plan-bytes-is count = rw plan-total
 
 pub unused-is : (plan : List ℕ) → unusedOn plan ≡ fieldAt plan (52 + 140 * countOn plan) (unusedBits (52 + 140 * countOn plan))
-unfolding unusedOn unusedAt
+unfolding unusedAt
 unused-is plan = rw plan-total
 
 -- no field of a plan is wider than 64 bits
@@ -62,23 +64,8 @@ length-entries plan count = length-fields plan (countWidth + costWidth) (rows co
 -- ---- reading, test by test
 
 -- bytes that hold a whole plan, with zero in its unused bits
-pub record Whole (plan : List ℕ) : Type 0 where
-  pub some : 0 < countOn plan
-  pub few : countOn plan ≤ mostEntries
-  pub held : tableBytes headWidths entryWidths (countOn plan) ≤ length plan
-  pub clear : unusedOn plan ≡ 0
-
-pub wire-whole : (plan values : List ℕ) → wireTests plan ≡ gives values → Whole plan
-unfolding wireTests
-wire-whole plan values h =
-    let a = when-gives 1 0 (eqb (length plan) 0) refl h in
-    let b = when-gives 9 0 (eqb (countOn plan) 0) refl (a .1) in
-    let d = when-gives 9 0 (ltb mostEntries (countOn plan)) refl (b .1) in
-    let e = when-gives 1 0 (ltb (length plan) (tableBytes headWidths entryWidths (countOn plan))) refl (d .1) in
-    let f = when-gives 7 0 (ltb 0 (unusedOn plan)) refl (e .1) in
-    let z : countOn plan ≡ 0 → ⊥ = eqb-false _ _ (b .0) in
-    let u : unusedOn plan ≤ 0 = ltb-false _ _ (f .0) in
-    record { some = omega arith; few = ltb-false _ _ (d .0); held = ltb-false _ _ (e .0); clear = omega arith }
+abbrev pub WholePlan : List ℕ → Type 0
+WholePlan plan = Whole headWidths entryWidths mostEntries plan
 
 -- the entries as the reader takes them
 pub entries-are : (plan : List ℕ) (count : ℕ) → count ≡ countOn plan
@@ -102,7 +89,7 @@ module _ (plan : List ℕ) (room : ℕ) where
 
 -- a plan that is read: whole, its entries sound, and room for them
 pub record Readable (plan : List ℕ) (room : ℕ) (values : List ℕ) : Type 0 where
-  pub whole : Whole plan
+  pub whole : WholePlan plan
   pub sound : entryTests (countOn plan) 0 (entriesOn plan) ≡ gives []
   pub held : entryNumbers * countOn plan ≤ room
   pub told : values ≡ countOn plan ∷ costOn plan ∷ []
@@ -114,7 +101,7 @@ read-readable plan room values h =
     let b = then-gives (entryTests (countOn plan) 0 (entriesOn plan)) _ (a .2) in
     let d = when-gives 8 0 (ltb room (entryNumbers * countOn plan)) refl (b .2) in
     record {
-      whole = wire-whole plan (a .0) (a .1);
+      whole = wire-whole _ _ _ _ _ _ plan (a .0) (a .1) .1;
       sound = tests-pass (countOn plan) 0 (entriesOn plan) (b .0) (b .1);
       held = ltb-false _ _ (d .0);
       told = let e : gives (countOn plan ∷ costOn plan ∷ []) ≡ gives values = d .1 in cc;
@@ -218,7 +205,7 @@ whole-part frame = take-all (length frame - headBytes) (drop headBytes frame) (o
 
 -- a frame shorter than its head has no count byte
 pub headless : (frame : List ℕ) (room : ℕ) → length frame < headBytes → refusalOf Short ≡ readOutcome (drop headBytes frame) room
-unfolding wireTests _when_else_
+unfolding tableTests _when_else_
 headless frame room short =
     let none : length (drop headBytes frame) ≡ 0 = omega (arith, length-drop headBytes frame) in
     wire-refuses (drop headBytes frame) room Short (simp (eq-eqb _ _ none))

@@ -7,17 +7,18 @@ use native.Mathlib.Omega.{arith}
 use native.Mathlib.Nat.{add-zero}
 use lib.ListN.{length, getD, take, drop, length-append, length-drop, take-append-drop}
 use lib.Seq.{drop-cons, take-at, drop-at, getD-drop, length-take-le}
-use borrow.Author.Tests.{ne-eqb, le-ltb}
+use borrow.Author.Tests.{le-ltb}
 use Rattle.bits.specs.Field.{Bytes}
-use Rattle.bits.specs.Table.{rows, fieldsAt, fieldWidths, tableBytes, readTable, unusedAt, writeTable, Fit}
+use Rattle.bits.specs.Table.{rows, fieldsAt, fieldWidths, tableBytes, readTable, writeTable, Fit}
 use Rattle.bits.proofs.Fields.{field-lt}
-use Rattle.bits.proofs.Tables.{write-read, length-write, read-write, read-front}
+use Rattle.bits.proofs.Tables.{write-read, read-write}
 use Rattle.packets.specs.Outcome.{gives, _when_else_}
 use Rattle.packets.proofs.Outcomes.{passed-then, given-leaves}
+use Rattle.packets.proofs.Wire.{whole-wire, written-whole, front-same}
 use Rattle.plan.specs.Entries.{entryNumbers, entryWidths, entryTests}
-use Rattle.plan.specs.Frame.{headBytes, countWidth, costWidth, headWidths, frameBytes, countOn, costOn, entriesOn, unusedOn, wireTests, roomTest, readOutcome, entriesAfter, writeOutcome, framed, frameAfter}
+use Rattle.plan.specs.Frame.{headBytes, countWidth, costWidth, headWidths, frameBytes, countOn, costOn, entriesOn, wireTests, roomTest, readOutcome, entriesAfter, writeOutcome, framed, frameAfter}
 use Rattle.plan.proofs.Judging.{SoundAt, entries-sound, tests-past}
-use Rattle.plan.proofs.Framing.{Readable, read-readable, plan-bytes-is, length-entries, Fitting, fitting-memory, write-gives}
+use Rattle.plan.proofs.Framing.{WholePlan, Readable, read-readable, length-entries, Fitting, fitting-memory, write-gives}
 
 -- ---- written and read back
 
@@ -86,16 +87,17 @@ module _ (count : ℕ) (entries : List ℕ) (cost : ℕ) (frame : List ℕ) (fit
     (fitting .small, fit-entries count 0 entries (omega (arith, fitting .held)) (λ k lo hi. entries-sound count 0 entries [] (fitting .sound) k lo hi)),
   )
 
-  back : (readTable written headWidths entryWidths count ≡ count ∷ cost ∷ take (entryNumbers * count) entries)
-      × (unusedAt written headWidths entryWidths count ≡ 0)
+  -- the written bytes are a whole plan, and hold the count, the cost and the entries
+  whole-back : (countOn written ≡ count) × WholePlan written
   unfolding written
-  back = write-read headWidths entryWidths count (drop headBytes frame) (count ∷ cost ∷ take (entryNumbers * count) entries) room fits
-
-  all-back : countOn written ∷ costOn written ∷ fieldsAt written (countWidth + costWidth) (rows count entryWidths) ≡ count ∷ cost ∷ take (entryNumbers * count) entries
-  all-back = sym (table-plan written count) ∙ back .0
+  whole-back = written-whole _ _ _ _ 9 9 count (cost ∷ take (entryNumbers * count) entries) (drop headBytes frame) fits room (fitting .some) (fitting .few)
 
   count-back : countOn written ≡ count
-  count-back = cc all-back
+  count-back = whole-back .0
+
+  all-back : countOn written ∷ costOn written ∷ fieldsAt written (countWidth + costWidth) (rows count entryWidths) ≡ count ∷ cost ∷ take (entryNumbers * count) entries
+  unfolding written
+  all-back = sym (table-plan written count) ∙ write-read headWidths entryWidths count (drop headBytes frame) _ room fits .0
 
   cost-back : costOn written ≡ cost
   cost-back = cc all-back
@@ -104,29 +106,10 @@ module _ (count : ℕ) (entries : List ℕ) (cost : ℕ) (frame : List ℕ) (fit
   unfolding entriesOn
   entries-back = rw count-back (ap (drop 2) all-back)
 
-  unused-back : unusedOn written ≡ 0
-  unfolding unusedOn
-  unused-back = rw count-back (back .1)
-
-  length-back : length written ≡ length (drop headBytes frame)
-  unfolding written
-  length-back = length-write headWidths entryWidths count (drop headBytes frame) _
-
-  wire-back : wireTests written ≡ gives []
-  unfolding wireTests _when_else_
-  wire-back =
-      let used = plan-bytes-is count in
-      let r = room in
-      let z : length written ≡ 0 → ⊥ = λ (e : length written ≡ 0). omega (arith, length-back) in
-      let y : count ≡ 0 → ⊥ = λ (e : count ≡ 0). omega (arith, fitting .some) in
-      let h : tableBytes headWidths entryWidths count ≤ length written = omega (arith, length-back) in
-      let u : unusedOn written ≤ 0 = omega (arith, unused-back) in
-      rw count-back (simp (ne-eqb _ _ z, ne-eqb _ _ y, le-ltb _ _ (fitting .few), le-ltb _ _ h, le-ltb _ _ u))
-
   read-back : (lent : ℕ) → entryNumbers * count ≤ lent → readOutcome written lent ≡ gives (count ∷ cost ∷ [])
   unfolding readOutcome roomTest _when_else_
   read-back lent held =
-      passed-then _ (sym wire-back)
+      passed-then _ (sym (whole-wire _ _ _ _ _ _ (omega arith) written (whole-back .1)))
       ∙ passed-then _ (sym (rw (count-back, entries-back) (first-tests count entries (fitting .held) (fitting .sound))))
       ∙ rw (count-back, cost-back) (simp (le-ltb _ _ held))
 
@@ -202,21 +185,11 @@ module _ (plan lent frame : List ℕ) (small : Bytes plan) (small-frame : Bytes 
       again : writeTable (drop headBytes frame) headWidths entryWidths (countOn plan) (readTable plan headWidths entryWidths (countOn plan))
           ≡ take (tableBytes headWidths entryWidths (countOn plan)) plan ++ drop (tableBytes headWidths entryWidths (countOn plan)) (drop headBytes frame)
       again =
-          (unfold unusedOn frameBytes in
+          (unfold frameBytes in
           (read-write headWidths entryWidths (countOn plan) plan (drop headBytes frame) small small-part (read .whole .held)
           (omega (arith, long, length-drop headBytes frame)) (read .whole .clear)))
 
 -- ---- what stands behind a plan
-
--- the tests of the bytes ask nothing of them but the count, the unused bits, and that the plan is whole
-wire-same : (a b : List ℕ) → countOn a ≡ countOn b → unusedOn a ≡ unusedOn b
-    → tableBytes headWidths entryWidths (countOn a) ≤ length a → tableBytes headWidths entryWidths (countOn a) ≤ length b → wireTests a ≡ wireTests b
-unfolding wireTests _when_else_
-wire-same a b count unused long-a long-b =
-    let used = plan-bytes-is (countOn a) in
-    let z : length a ≡ 0 → ⊥ = λ (e : length a ≡ 0). omega arith in
-    let y : length b ≡ 0 → ⊥ = λ (e : length b ≡ 0). omega arith in
-    rw (← count, ← unused) (simp (ne-eqb _ _ z, ne-eqb _ _ y, le-ltb _ _ long-a, le-ltb _ _ long-b))
 
 -- bytes that agree as far as a whole plan goes are read alike, and leave the same in the lent entries: nothing behind the plan has any influence
 pub nothing-behind : (a b lent : List ℕ) → tableBytes headWidths entryWidths (countOn a) ≤ length a → tableBytes headWidths entryWidths (countOn a) ≤ length b
@@ -224,34 +197,23 @@ pub nothing-behind : (a b lent : List ℕ) → tableBytes headWidths entryWidths
     → (readOutcome a (length lent) ≡ readOutcome b (length lent)) × (entriesAfter a lent ≡ entriesAfter b lent)
 nothing-behind a b lent long-a long-b front = (outcome, after)
   where
-    n : ℕ
-    n = countOn a
+    same : (countOn b ≡ countOn a)
+        × (readTable a headWidths entryWidths (countOn a) ≡ readTable b headWidths entryWidths (countOn a))
+        × (wireTests a ≡ wireTests b)
+    same = front-same _ _ _ _ _ _ (omega arith) a b long-a long-b front
 
-    same : (readTable a headWidths entryWidths n ≡ readTable b headWidths entryWidths n)
-        × (unusedAt a headWidths entryWidths n ≡ unusedAt b headWidths entryWidths n)
-    same = read-front headWidths entryWidths n a b front
-
-    both : countOn a ∷ costOn a ∷ fieldsAt a (countWidth + costWidth) (rows n entryWidths)
-        ≡ countOn b ∷ costOn b ∷ fieldsAt b (countWidth + costWidth) (rows n entryWidths)
-    both = sym (table-plan a n) ∙ same .0 ∙ table-plan b n
-
-    count : countOn b ≡ n
-    count = cc both
+    both : countOn a ∷ costOn a ∷ fieldsAt a (countWidth + costWidth) (rows (countOn a) entryWidths)
+        ≡ countOn b ∷ costOn b ∷ fieldsAt b (countWidth + costWidth) (rows (countOn a) entryWidths)
+    both = sym (table-plan a (countOn a)) ∙ same .1 ∙ table-plan b (countOn a)
 
     cost : costOn a ≡ costOn b
     cost = cc both
 
     entries : entriesOn a ≡ entriesOn b
-    entries = (unfold entriesOn in (rw count (ap (drop 2) both)))
-
-    unused : unusedOn a ≡ unusedOn b
-    unused = (unfold unusedOn in (rw count (same .1)))
-
-    wire : wireTests a ≡ wireTests b
-    wire = wire-same a b (sym count) unused long-a long-b
+    entries = (unfold entriesOn in (rw (same .0) (ap (drop 2) both)))
 
     outcome : readOutcome a (length lent) ≡ readOutcome b (length lent)
-    outcome = (unfold readOutcome roomTest in (rw (wire, entries, count, cost)))
+    outcome = (unfold readOutcome roomTest in (rw (same .2, entries, same .0, cost)))
 
     after : entriesAfter a lent ≡ entriesAfter b lent
     after = (unfold entriesAfter in (rw (outcome, entries)))

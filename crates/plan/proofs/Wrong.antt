@@ -7,6 +7,7 @@ use lib.ListN.{getD}
 use Rattle.bits.specs.Field.{digit, bit, spelt, fieldAt, bytesFrom, replaced, putField}
 use Rattle.bits.specs.Table.{total, rows, fieldsAt, putFields, fieldWidths, tableWidths, tableBytes, unusedAt, writeTable}
 use Rattle.packets.specs.Outcome.{gives, _when_else_, _then_, inOrder, _given_else_}
+use Rattle.packets.specs.Wire.{tableTests}
 use Rattle.packets.specs.declared.refusal.Refusal.{Refusal}
 use Rattle.packets.proofs.Answers.{refusal-gives}
 use Rattle.plan.specs.declared.frame.ReadAnswer.{ReadAnswer}
@@ -14,7 +15,7 @@ use Rattle.plan.specs.declared.frame.ReadAnswer.the-variants as read-ans
 use Rattle.plan.specs.declared.frame.FrameAnswer.{FrameAnswer}
 use Rattle.plan.specs.declared.frame.FrameAnswer.the-variants as frame-answer
 use Rattle.plan.specs.Entries.{entryTest, entryAt, entryTests}
-use Rattle.plan.specs.Frame.{frameBytes, countOn, costOn, entriesOn, unusedOn, readAnswerOf, frameAnswerOf, wireTests, roomTest, readOutcome, entriesAfter, memoryTests, writeOutcome, framed, frameAfter, PlanRead, PlanWritten}
+use Rattle.plan.specs.Frame.{frameBytes, costOn, entriesOn, readAnswerOf, frameAnswerOf, roomTest, readOutcome, entriesAfter, memoryTests, writeOutcome, framed, frameAfter, PlanRead, PlanWritten}
 
 -- the plan of list B, whose packet of 1 byte is sent from 0 to 1 seconds at 1 byte per second: the entry in memory; and its frame: a head of zeros, the plan
 -- and one byte behind it
@@ -39,7 +40,7 @@ blank =
 -- what the promise says of reading it into room for one entry
 reads-B : (answer : ReadAnswer) (after : List ℕ) → PlanRead frameB (9 ∷ 9 ∷ 9 ∷ 9 ∷ 9 ∷ 9 ∷ []) answer after
     → (readAnswerOf answer ≡ gives (1 ∷ 1 ∷ [])) × (after ≡ entryB)
-unfolding digit bit spelt fieldAt total rows fieldsAt fieldWidths tableBytes unusedAt _when_else_ _then_ _given_else_ entryTest entryAt entryTests inOrder countOn costOn entriesOn unusedOn wireTests roomTest readOutcome entriesAfter
+unfolding digit bit spelt fieldAt total rows fieldsAt fieldWidths tableBytes unusedAt _when_else_ _then_ _given_else_ entryTest entryAt entryTests inOrder tableTests costOn entriesOn roomTest readOutcome entriesAfter
 reads-B answer after p = p
 
 -- a reader that refuses everything

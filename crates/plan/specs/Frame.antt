@@ -8,6 +8,7 @@ use lib.Dec.{eqb, ltb, leb}
 use Rattle.bits.specs.Field.{fieldAt}
 use Rattle.bits.specs.Table.{rows, fieldsAt, tableBytes, unusedAt, writeTable}
 use Rattle.packets.specs.Outcome.{Outcome, gives, refuses, _when_else_, _then_, _given_else_, refusalOf}
+use Rattle.packets.specs.Wire.{countAt, tableTests}
 use Rattle.plan.specs.Entries.{mostEntries, entryNumbers, entryWidths, entryTests}
 use Rattle.plan.specs.declared.frame.ReadAnswer.{ReadAnswer}
 use Rattle.plan.specs.declared.frame.ReadAnswer.the-variants as read-answer
@@ -51,8 +52,8 @@ abbrev pub planOn : List ℕ → List ℕ
 planOn frame = drop headBytes frame
 
 -- the entry count and the cost at the front of a plan
-unfoldable pub countOn : List ℕ → ℕ
-countOn plan = fieldAt plan 0 countWidth
+abbrev pub countOn : List ℕ → ℕ
+countOn plan = countAt plan headWidths
 
 unfoldable pub costOn : List ℕ → ℕ
 costOn plan = fieldAt plan countWidth costWidth
@@ -62,18 +63,12 @@ unfoldable pub entriesOn : List ℕ → List ℕ
 entriesOn plan = fieldsAt plan (countWidth + costWidth) (rows (countOn plan) entryWidths)
 
 -- what stands in the unused bits of the plan's last byte
-unfoldable pub unusedOn : List ℕ → ℕ
+abbrev pub unusedOn : List ℕ → ℕ
 unusedOn plan = unusedAt plan headWidths entryWidths (countOn plan)
 
--- the tests of the bytes alone: no count byte (1), 9, 1, 7
-unfoldable pub wireTests : List ℕ → Outcome
-wireTests plan =
-    refuses 1 0 when eqb (length plan) 0 else
-    refuses 9 0 when eqb (countOn plan) 0 else
-    refuses 9 0 when ltb mostEntries (countOn plan) else
-    refuses 1 0 when ltb (length plan) (tableBytes headWidths entryWidths (countOn plan)) else
-    refuses 7 0 when ltb 0 (unusedOn plan) else
-    gives []
+-- the tests of the bytes alone, those of any table (Wire of packets): no count byte (1), 9, 1, 7
+abbrev pub wireTests : List ℕ → Outcome
+wireTests plan = tableTests headWidths entryWidths mostEntries 9 9 plan
 
 -- the test of the room for the entries (numbers), and what a plan that is read gives
 unfoldable pub roomTest : List ℕ → ℕ → Outcome

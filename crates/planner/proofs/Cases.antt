@@ -8,8 +8,9 @@ use Rattle.bits.specs.Field.{digit, bit, spelt, fieldAt, bytesFrom, replaced, p
 use Rattle.bits.specs.Table.{total, rows, fieldsAt, putFields, fieldWidths, tableWidths, tableBytes, unusedAt, writeTable}
 use Rattle.packets.specs.Limits.{airBytes}
 use Rattle.packets.specs.Outcome.{Outcome, gives, refuses, _when_else_, _then_, inOrder, _given_else_}
+use Rattle.packets.specs.Wire.{tableTests}
 use Rattle.packets.specs.Records.{sizeOf, arrivalOf, deadlineOf, recordTest, recordAt, recordTests, memoryTests}
-use Rattle.packets.specs.List.{listBytes, countOn, recordsOn, unusedOn, wireTests, writeOutcome, bytesAfter}
+use Rattle.packets.specs.List.{recordsOn, writeOutcome, bytesAfter}
 use Rattle.fractions.specs.Fraction.{euclid, gcd, lowestN, lowestD}
 use Rattle.policy.specs.Windows.{assign, choose, inside, left, onlyIf, sum, unassigned}
 use Rattle.policy.specs.Points.{epochsOf, packetsOf, pointsOf, withPoint}
@@ -138,7 +139,7 @@ LeastA =
 pub cases : Planned A × Planned B × Planned C × Planned D × Planned E × Planned F
     × (refused ≡ refuses 4 0 ∷ refuses 6 0 ∷ refuses 5 0 ∷ refuses 2 0 ∷ [])
     × LeastA
-unfolding digit bit spelt fieldAt bytesFrom replaced putField total rows fieldsAt putFields fieldWidths tableWidths tableBytes unusedAt writeTable airBytes _when_else_ _then_ inOrder _given_else_ sizeOf arrivalOf deadlineOf recordTest recordAt recordTests memoryTests listBytes countOn recordsOn unusedOn wireTests writeOutcome bytesAfter euclid gcd lowestN lowestD assign choose inside left onlyIf sum unassigned epochsOf packetsOf pointsOf withPoint after atFirst beats bestFrom bestOf better dayOf giveRate leads len load outcomeOf pick round roundOf taken carries inUnits priceOf priced epochCount epochRows ratesOf shownD shownN setting begun candidate earliest eligible entriesOf filled less nextIn sent sheetAt sooner turnOf turns unitsIn unitsOf commonD costOf exactCostD exactCostIn exactCostN product radioCost frameBytes planNumbers packetsOutcome planOutcome
+unfolding digit bit spelt fieldAt bytesFrom replaced putField total rows fieldsAt putFields fieldWidths tableWidths tableBytes unusedAt writeTable airBytes _when_else_ _then_ inOrder _given_else_ sizeOf arrivalOf deadlineOf recordTest recordAt recordTests memoryTests tableTests recordsOn writeOutcome bytesAfter euclid gcd lowestN lowestD assign choose inside left onlyIf sum unassigned epochsOf packetsOf pointsOf withPoint after atFirst beats bestFrom bestOf better dayOf giveRate leads len load outcomeOf pick round roundOf taken carries inUnits priceOf priced epochCount epochRows ratesOf shownD shownN setting begun candidate earliest eligible entriesOf filled less nextIn sent sheetAt sooner turnOf turns unitsIn unitsOf commonD costOf exactCostD exactCostIn exactCostN product radioCost frameBytes planNumbers packetsOutcome planOutcome
 cases = (
   (refl, refl, refl, refl),
   (refl, refl, refl, refl),

@@ -45,7 +45,7 @@ not-fixed frame after after′ answer long w w′ =
 
 -- list A is on the wire what it is in memory
 A-on-wire : (countOn (A .bytes) ≡ A .count) × (recordsOn (A .bytes) ≡ A .records)
-unfolding digit bit spelt fieldAt total rows fieldsAt countOn recordsOn
+unfolding digit bit spelt fieldAt total rows fieldsAt recordsOn
 A-on-wire = (refl, refl)
 
 -- planning list A into a frame of 3,357 bytes leaves a frame from which A's five entries and its cost are read, into any room of 1,146 numbers

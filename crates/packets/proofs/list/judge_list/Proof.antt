@@ -7,7 +7,8 @@ use Rattle.packets.specs.Outcome.{gives, _when_else_}
 use Rattle.packets.specs.Records.{recordTests}
 use Rattle.packets.specs.List.{wireTests, countOn, recordsOn, roomTest}
 use Rattle.packets.proofs.Outcomes.{verdict-refuses, verdict-passes}
-use Rattle.packets.proofs.Lists.{Whole, wire-whole, list-bytes-is, records-are, wire-refuses, records-refuse, records-pass}
+use Rattle.packets.proofs.Wire.{wire-whole}
+use Rattle.packets.proofs.Lists.{WholeList, list-bytes-is, records-are, wire-refuses, records-refuse, records-pass}
 use borrow.Author.Needs.{needs}
 use Rattle.packets.proofs.list.judge_list.Statement.{statement}
 use Rattle.packets.proofs.list.judge_list.Tie as tie
@@ -28,8 +29,8 @@ enum-told c = search needs
 passes : (c : tie.After-enum-told) → gives [] ≡ wireTests (c .before .before .before .before .args .bytes .now)
 passes c = verdict-passes (c .enum-told .given .1) (c .before .before .judge-wire .ensures)
 
-whole : (c : tie.After-enum-told) → Whole (c .before .before .before .before .args .bytes .now)
-whole c = wire-whole _ [] (sym (passes c)) .1
+whole : (c : tie.After-enum-told) → WholeList (c .before .before .before .before .args .bytes .now)
+whole c = wire-whole _ _ _ _ _ _ _ [] (sym (passes c)) .1
 
 count-on-requires : tie.Need-count-on-requires
 count-on-requires c κs =

@@ -4,24 +4,25 @@ use native.Mathlib.Omega.{arith}
 use borrow.Author.Needs.{needs}
 use borrow.Author.Tests.{eq-eqb, ne-eqb, lt-ltb, le-ltb}
 use Rattle.packets.specs.Outcome.{_when_else_}
-use Rattle.packets.specs.List.{wireTests, unusedOn}
+use Rattle.packets.specs.Wire.{tableTests}
+use Rattle.packets.specs.List.{unusedOn}
 use Rattle.packets.proofs.Lists.{list-bytes-is, unused-is}
 use Rattle.packets.proofs.list.judge_wire.Statement.{statement}
 use Rattle.packets.proofs.list.judge_wire.Tie as tie
 
 returns : tie.Need-returns
-unfolding wireTests _when_else_
+unfolding tableTests _when_else_
 returns c = simp (eq-eqb _ _ (c .if1 .taken))
 
 count-on-requires : tie.Need-count-on-requires
 count-on-requires c κs = search needs
 
 returns-2 : tie.Need-returns-2
-unfolding wireTests _when_else_
+unfolding tableTests _when_else_
 returns-2 c = rw (← c .before .count-on .ensures .0) (simp (ne-eqb _ _ (c .before .before .if1 .left), eq-eqb _ _ (c .if2 .taken)))
 
 returns-3 : tie.Need-returns-3
-unfolding wireTests _when_else_
+unfolding tableTests _when_else_
 returns-3 c =
     rw (← c .before .before .count-on .ensures .0)
     (simp (ne-eqb _ _ (c .before .before .before .if1 .left), ne-eqb _ _ (c .before .if2 .left), lt-ltb _ _ (c .if3 .taken)))
@@ -30,7 +31,7 @@ list-bytes-requires : tie.Need-list-bytes-requires
 list-bytes-requires c κs = search needs
 
 returns-4 : tie.Need-returns-4
-unfolding wireTests _when_else_
+unfolding tableTests _when_else_
 returns-4 c =
     rw (← c .before .before .before .before .count-on .ensures .0, ← c .before .list-bytes .ensures)
     (simp (
@@ -63,7 +64,7 @@ unused c =
     c .get .ensures .0 ∙ rw (c .before .unused-bits .ensures .0) (rw n (sym (unused-is (s .args .bytes .now))))
 
 returns-5 : tie.Need-returns-5
-unfolding wireTests _when_else_
+unfolding tableTests _when_else_
 returns-5 c =
     let t = c .before .before .before in
     rw (← unused (c .before), ← t .before .before .before .before .count-on .ensures .0, ← t .before .list-bytes .ensures)
@@ -76,7 +77,7 @@ returns-5 c =
     ))
 
 returns-6 : tie.Need-returns-6
-unfolding wireTests _when_else_
+unfolding tableTests _when_else_
 returns-6 c =
     let t = c .before .before .before in
     rw (← unused (c .before), ← t .before .before .before .before .count-on .ensures .0, ← t .before .list-bytes .ensures)

@@ -1,6 +1,5 @@
 -- `plan::frame::count_on` meets its contract: the count is the field of 8 bits at bit 0. Assumes nothing.
 use borrow.Author.Needs.{needs}
-use Rattle.plan.specs.Frame.{countOn}
 use Rattle.plan.proofs.frame.count_on.Statement.{statement}
 use Rattle.plan.proofs.frame.count_on.Tie as tie
 
@@ -8,7 +7,6 @@ get-requires : tie.Need-get-requires
 get-requires c κs = search needs
 
 returns : tie.Need-returns
-unfolding countOn
 returns c = (c .get .ensures .0, c .get .ensures .1)
 
 pub count-on-spec : {M : Type 1} → statement M

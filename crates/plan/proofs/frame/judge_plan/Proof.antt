@@ -7,7 +7,8 @@ use Rattle.packets.specs.Outcome.{gives, _when_else_}
 use Rattle.plan.specs.Entries.{entryTests}
 use Rattle.plan.specs.Frame.{wireTests, countOn, costOn, entriesOn, roomTest}
 use Rattle.packets.proofs.Outcomes.{verdict-refuses, verdict-passes}
-use Rattle.plan.proofs.Framing.{Whole, wire-whole, plan-bytes-is, entries-are, wire-refuses, entries-refuse, entries-pass}
+use Rattle.packets.proofs.Wire.{wire-whole}
+use Rattle.plan.proofs.Framing.{WholePlan, plan-bytes-is, entries-are, wire-refuses, entries-refuse, entries-pass}
 use borrow.Author.Needs.{needs}
 use Rattle.plan.proofs.frame.judge_plan.Statement.{statement}
 use Rattle.plan.proofs.frame.judge_plan.Tie as tie
@@ -28,8 +29,8 @@ enum-told c = search needs
 passes : (c : tie.After-enum-told) → gives [] ≡ wireTests (c .before .before .before .before .args .plan .now)
 passes c = verdict-passes (c .enum-told .given .1) (c .before .before .judge-wire .ensures)
 
-whole : (c : tie.After-enum-told) → Whole (c .before .before .before .before .args .plan .now)
-whole c = wire-whole _ [] (sym (passes c))
+whole : (c : tie.After-enum-told) → WholePlan (c .before .before .before .before .args .plan .now)
+whole c = wire-whole _ _ _ _ _ _ _ [] (sym (passes c)) .1
 
 count-on-requires : tie.Need-count-on-requires
 count-on-requires c κs =
