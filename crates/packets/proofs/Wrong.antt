@@ -70,7 +70,7 @@ not-behind answer p = let z : _≡_ {A = ℕ} 0 0x55 = ap (λ (l : List ℕ). ge
 
 -- a writer that refuses everything, whatever its refusal
 write-not-refused : (refusal : Refusal) (after : List ℕ) → ListWritten 1 (1 ∷ 0 ∷ 1 ∷ []) listB (written-answer.Refused refusal) after → ⊥
-unfolding digit bit spelt fieldAt bytesFrom replaced putField total rows fieldsAt putFields fieldWidths tableWidths tableBytes unusedAt writeTable _when_else_ _then_ _given_else_ sizeOf arrivalOf deadlineOf recordTest recordAt recordTests inOrder memoryTests listBytes writeOutcome bytesAfter
+unfolding digit bit spelt fieldAt bytesFrom replaced putField total rows fieldsAt putFields fieldWidths tableWidths tableBytes unusedAt writeTable _when_else_ _then_ _given_else_ sizeOf arrivalOf deadlineOf recordTest recordAt recordTests inOrder memoryTests writeOutcome bytesAfter
 write-not-refused refusal after p = refusal-gives refusal (8 ∷ []) (p .0)
 
 -- a writer that writes nothing
