@@ -1,11 +1,10 @@
 -- Laws of the list on the wire: the bits that it takes, and what an answer that gives values tells. Assumes nothing.
 use Prim.Native.Nat.{ℕ, zero, suc, _+_, _-_, _*_, _/_, _<_, _≤_}
-use mathlib.Core.Path.{_≡_, refl, sym, ap, _∙_}
+use mathlib.Core.Path.{_≡_, refl, sym, ap, ap₂, _∙_}
 use mathlib.Core.List.{List, [], _∷_, _++_}
 use native.Mathlib.Omega.{arith}
-use native.Mathlib.Nat.{zero-add}
 use lib.ListN.{length, take, drop, length-drop}
-use lib.Seq.{sets, sets-eq, take-all}
+use lib.Seq.{sets, take-all}
 use lib.Dec.{ltb}
 use borrow.Author.Tests.{ltb-false, lt-ltb, le-ltb}
 use Rattle.bits.specs.Field.{fieldAt}
@@ -18,7 +17,7 @@ use Rattle.packets.specs.Records.{recordNumbers, recordTests, memoryTest
 use Rattle.packets.specs.List.{countWidth, recordWidths, listBytes, countOn, recordsOn, unusedOn, wireTests, roomTest, readOutcome, recordsAfter, restAfter, writeOutcome, bytesAfter}
 use Rattle.packets.specs.declared.refusal.Refusal.{Refusal}
 use Rattle.packets.proofs.Outcomes.{when-gives, then-gives, refused-then, passed-then, given-leaves, refused-leaves}
-use Rattle.packets.proofs.Wire.{Whole, wire-whole}
+use Rattle.packets.proofs.Wire.{Whole, wire-whole, stored-given}
 use Rattle.packets.proofs.Records.{tests-pass, records-sound}
 
 -- ---- the bits of a list
@@ -69,10 +68,13 @@ WholeList bytes = Whole (countWidth ∷ []) recordWidths mostPackets bytes
 -- ---- the answer of reading, test by test
 
 -- the records as the reader takes them
+records-read : (bytes : List ℕ) (count : ℕ) → count ≡ countOn bytes → fieldsAt bytes countWidth (rows count recordWidths) ≡ recordsOn bytes
+unfolding recordsOn
+records-read bytes count e = rw e
+
 pub records-are : (bytes : List ℕ) (count : ℕ) → count ≡ countOn bytes
     → recordTests count 0 (fieldsAt bytes countWidth (rows count recordWidths)) ≡ recordTests (countOn bytes) 0 (recordsOn bytes)
-unfolding recordsOn
-records-are bytes count e = rw e
+records-are bytes count e = ap₂ (λ (n : ℕ) (l : List ℕ). recordTests n 0 l) e (records-read bytes count e)
 
 module _ (bytes : List ℕ) (room : ℕ) where
   pub wire-refuses : (refusal : Refusal) → refusalOf refusal ≡ wireTests bytes → refusalOf refusal ≡ readOutcome bytes room
@@ -110,17 +112,6 @@ read-readable bytes room values h =
       told = let e : gives (countOn bytes ∷ listBytes (countOn bytes) ∷ []) ≡ gives values = d .1 in cc;
     }
 
--- what reading then leaves
-pub read-leaves : (bytes lent : List ℕ) (values : List ℕ) → gives values ≡ readOutcome bytes (length lent)
-    → (restAfter bytes (length lent) ≡ drop (listBytes (countOn bytes)) bytes) × (recordsAfter bytes lent ≡ sets lent 0 (recordsOn bytes))
-unfolding restAfter recordsAfter
-read-leaves bytes lent values e =
-    let r = read-readable bytes (length lent) values (sym e) in
-    let long : length (recordsOn bytes) ≡ recordNumbers * countOn bytes = (unfold recordsOn in (length-records bytes (countOn bytes))) in
-    let stored : recordsOn bytes ++ drop (0 + length (recordsOn bytes)) lent ≡ sets lent 0 (recordsOn bytes) =
-    sym (sets-eq (recordsOn bytes) lent 0 (omega (arith, r .held))) in
-    (given-leaves _ _ e, given-leaves _ _ e ∙ rw zero-add at stored)
-
 -- the numbers of such an answer, and the bounds that they meet
 pub record Told (bytes : List ℕ) (room count used : ℕ) : Type 0 where
   pub packets : count ≡ countOn bytes
@@ -146,12 +137,14 @@ read-told bytes room count used e =
 pub read-done : (bytes lent filled : List ℕ) (count used : ℕ) → gives (count ∷ used ∷ []) ≡ readOutcome bytes (length lent)
     → filled ≡ sets lent 0 (fieldsAt bytes countWidth (rows count recordWidths))
     → (take (length bytes - used) (drop used bytes) ≡ restAfter bytes (length lent)) × (filled ≡ recordsAfter bytes lent)
+unfolding restAfter recordsAfter
 read-done bytes lent filled count used e stored =
     let t = read-told bytes (length lent) count used e in
-    let l = read-leaves bytes lent _ e in
-    let whole : take (length bytes - used) (drop used bytes) ≡ drop used bytes = take-all (length bytes - used) (drop used bytes) (omega (arith, length-drop used bytes)) in (
-      whole ∙ ap (λ (n : ℕ). drop n bytes) (t .taken) ∙ sym (l .0),
-      stored ∙ ap (λ (n : ℕ). sets lent 0 (fieldsAt bytes countWidth (rows n recordWidths))) (t .packets) ∙ (unfold recordsOn in (sym (l .1))),
+    let held = t .held in
+    let whole : take (length bytes - used) (drop used bytes) ≡ drop used bytes = take-all (length bytes - used) (drop used bytes) (omega (arith, length-drop used bytes)) in
+    let records = records-read bytes count (t .packets) in (
+      whole ∙ ap (λ (n : ℕ). drop n bytes) (t .taken) ∙ sym (given-leaves _ _ e),
+      stored ∙ rw records (stored-given (recordsOn bytes) lent e (rw (← records) (omega (arith, length-records bytes count)))),
     )
 
 -- and when it has been refused

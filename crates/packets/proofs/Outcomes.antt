@@ -111,3 +111,12 @@ in-order-each test (suc n) i values h k lo hi =
     go : (own : List ℕ) → test i ≡ gives own → (suc i ≤ k → k < suc i + n → (more : List ℕ) × (test k ≡ gives more)) → Dec (suc i ≤ k) → (more : List ℕ) × (test k ≡ gives more)
     go own one later (yes above) = later above (omega arith)
     go own one later (no not-above) = let e : k ≡ i = omega arith in (own, rw e one)
+
+-- and none has values of its own
+pub in-order-none : (test : ℕ → Outcome) (n i : ℕ) {values : List ℕ} → inOrder test n i ≡ gives values → inOrder test n i ≡ gives []
+unfolding inOrder
+in-order-none test n i h = h ∙ ap gives (none n i h)
+  where
+    none : (n i : ℕ) {values : List ℕ} → inOrder test n i ≡ gives values → values ≡ []
+    none zero i h = cc
+    none (suc n) i h = none n (suc i) (then-gives (test i) _ h .2)

@@ -1,22 +1,23 @@
 -- Laws of the tests of packets in memory: what passing every test means, and how far the tests look. Assumes nothing.
 use Prim.Native.Nat.{ℕ, _+_, _*_, _<_, _≤_}
-use mathlib.Core.Path.{_≡_, refl, sym, ap, _∙_}
+use mathlib.Core.Path.{_≡_, refl}
 use mathlib.Core.List.{List, [], _++_}
 use native.Mathlib.Omega.{arith}
-use lib.ListN.{length, getD, List·getD-append}
-use lib.Seq.{sets, sets-eq}
+use native.Mathlib.Nat.{add-zero}
+use lib.ListN.{length, getD, take}
+use lib.Seq.{sets}
 use lib.Dec.{eqb, ltb, leb}
 use borrow.Author.Tests.{eqb-false, ltb-false, leb-false, ne-eqb, le-ltb, lt-leb}
 use Rattle.packets.specs.Limits.{mostPackets, largestSize, lastSecond}
 use Rattle.packets.specs.Outcome.{gives, _when_else_}
 use Rattle.packets.specs.Records.{sizeOf, arrivalOf, deadlineOf, recordTest, recordAt, recordTests, memoryTests, recordNumbers, Sound, Accepted}
-use Rattle.packets.proofs.Outcomes.{when-gives, in-order-same, in-order-pass, in-order-each}
+use Rattle.packets.proofs.Outcomes.{when-gives, in-order-pass, in-order-each, in-order-none}
+use Rattle.packets.proofs.Wire.{rows-same, rows-past, rows-stored, rows-first}
 
 -- ---- one record
 
--- a record that is not refused is sound, and its tests give no values
-pub record-sound : (i size arrival deadline : ℕ) (values : List ℕ) → recordTest i size arrival deadline ≡ gives values
-    → Sound size arrival deadline × (recordTest i size arrival deadline ≡ gives [])
+-- a record that is not refused is sound
+pub record-sound : (i size arrival deadline : ℕ) (values : List ℕ) → recordTest i size arrival deadline ≡ gives values → Sound size arrival deadline
 unfolding recordTest
 record-sound i size arrival deadline values h =
     let a = when-gives 4 i (eqb size 0) refl h in
@@ -24,7 +25,7 @@ record-sound i size arrival deadline values h =
     let d = when-gives 5 i (ltb lastSecond deadline) refl (b .1) in
     let f = when-gives 6 i (leb deadline arrival) refl (d .1) in
     let z : size ≡ 0 → ⊥ = eqb-false _ _ (a .0) in
-    (record { some = omega arith; small = ltb-false _ _ (b .0); early = leb-false _ _ (f .0); today = ltb-false _ _ (d .0) }, h ∙ sym (f .1))
+    record { some = omega arith; small = ltb-false _ _ (b .0); early = leb-false _ _ (f .0); today = ltb-false _ _ (d .0) }
 
 -- a sound record gives no refusal
 pub sound-record : (i size arrival deadline : ℕ) → Sound size arrival deadline → recordTest i size arrival deadline ≡ gives []
@@ -35,23 +36,24 @@ sound-record i size arrival deadline s =
 
 -- ---- all records
 
--- where the tests of n records from record i on give values, each of these records is sound, and they give none
+-- where the tests of n records from record i on give values, each of these records is sound
 pub records-sound : (n i : ℕ) (records values : List ℕ) → recordTests n i records ≡ gives values
     → (k : ℕ) → i ≤ k → k < i + n → Sound (sizeOf records k) (arrivalOf records k) (deadlineOf records k)
 unfolding recordTests recordAt
 records-sound n i records values h k lo hi =
     let each = in-order-each (recordAt records) n i values h k lo hi in
-    record-sound k (sizeOf records k) (arrivalOf records k) (deadlineOf records k) (each .0) (each .1) .0
+    record-sound k (sizeOf records k) (arrivalOf records k) (deadlineOf records k) (each .0) (each .1)
 
 -- where each of them is sound, their tests pass
-sound-records : (n i : ℕ) (records : List ℕ)
+pub sound-records : (n i : ℕ) (records : List ℕ)
     → ((k : ℕ) → i ≤ k → k < i + n → Sound (sizeOf records k) (arrivalOf records k) (deadlineOf records k))
     → recordTests n i records ≡ gives []
 unfolding recordTests recordAt
 sound-records n i records sound = in-order-pass (recordAt records) n i (λ k lo hi. sound-record k _ _ _ (sound k lo hi))
 
 pub tests-pass : (n i : ℕ) (records values : List ℕ) → recordTests n i records ≡ gives values → recordTests n i records ≡ gives []
-tests-pass n i records values h = sound-records n i records (records-sound n i records values h)
+unfolding recordTests
+tests-pass n i records values h = in-order-none (recordAt records) n i h
 
 -- packets pass every test exactly where they are accepted
 pub memory-accepted : (count : ℕ) (records : List ℕ) → memoryTests count records ≡ gives [] → Accepted count records
@@ -77,24 +79,29 @@ accepted-memory count records a =
 
 -- ---- what the tests look at
 
+-- the test of a record looks at its own numbers
+record-own : (a b : List ℕ) (i : ℕ) → ((j : ℕ) → j < recordNumbers → getD a (recordNumbers * i + j) 0 ≡ getD b (recordNumbers * i + j) 0) → recordAt a i ≡ recordAt b i
+unfolding recordAt sizeOf arrivalOf deadlineOf
+record-own a b i same = rw (rw add-zero at (same 0 (omega arith)), same 1 (omega arith), same 2 (omega arith))
+
 -- records that agree as far as the tests look come to the same
 pub tests-same : (n i : ℕ) (a b : List ℕ) → ((k : ℕ) → k < recordNumbers * (i + n) → getD a k 0 ≡ getD b k 0) → recordTests n i a ≡ recordTests n i b
 unfolding recordTests
-tests-same n i a b same = in-order-same (recordAt a) (recordAt b) n i each
-  where
-    each : (k : ℕ) → i ≤ k → k < i + n → recordAt a k ≡ recordAt b k
-    each k lo hi =
-        (unfold recordAt sizeOf arrivalOf deadlineOf in
-        (rw (same (recordNumbers * k) (omega arith), same (recordNumbers * k + 1) (omega arith), same (recordNumbers * k + 2) (omega arith))))
+tests-same = rows-same recordNumbers recordAt record-own
 
 -- records past the count have no influence
 pub tests-past : (count : ℕ) (records extra : List ℕ) → recordNumbers * count ≤ length records
     → recordTests count 0 (records ++ extra) ≡ recordTests count 0 records
-tests-past count records extra held =
-    tests-same count 0 (records ++ extra) records (λ k h. List·getD-append records extra 0 k (omega arith))
+unfolding recordTests
+tests-past = rows-past recordNumbers recordAt record-own
 
--- the same of records that were stored at the front of a longer buffer
+-- the same of records that were stored at the front of a longer buffer, and of the records up to the count
 pub tests-stored : (count : ℕ) (buffer records : List ℕ) → recordNumbers * count ≤ length records → length records ≤ length buffer
     → recordTests count 0 (sets buffer 0 records) ≡ recordTests count 0 records
-tests-stored count buffer records held room =
-    ap (recordTests count 0) (sets-eq records buffer 0 (omega arith)) ∙ tests-past count records _ held
+unfolding recordTests
+tests-stored = rows-stored recordNumbers recordAt record-own
+
+pub tests-first : (count : ℕ) (records : List ℕ) → recordNumbers * count ≤ length records
+    → recordTests count 0 (take (recordNumbers * count) records) ≡ recordTests count 0 records
+unfolding recordTests
+tests-first = rows-first recordNumbers recordAt record-own

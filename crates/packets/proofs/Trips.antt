@@ -1,46 +1,34 @@
 -- The two round trips of a list: written and read back, the same packets; read and written again, the same bytes. Both stand on the table laws of the
 -- bits layer. Assumes nothing.
-use Prim.Native.Nat.{ℕ, zero, suc, _+_, _*_, _<_, _≤_}
-use mathlib.Core.Path.{_≡_, refl, sym, ap, subst, _∙_}
+use Prim.Native.Nat.{ℕ, zero, suc, _+_, _*_, _<_, _≤_, _^_}
+use mathlib.Core.Path.{_≡_, refl, sym, ap, _∙_}
 use mathlib.Core.List.{List, [], _∷_, _++_}
 use native.Mathlib.Omega.{arith}
-use lib.ListN.{length, getD, take, drop, length-append, take-append-drop}
-use lib.Seq.{drop-cons, take-at, length-take-le}
-use borrow.Author.Tests.{ne-eqb, le-ltb}
+use native.Mathlib.Nat.{add-zero}
+use lib.ListN.{length, getD, take, drop, length-append}
+use lib.Seq.{take-at, length-take-le}
+use borrow.Author.Tests.{le-ltb}
 use Rattle.bits.specs.Field.{Bytes}
 use Rattle.bits.specs.Table.{rows, fieldsAt, fieldWidths, readTable, writeTable, Fit}
 use Rattle.bits.proofs.Tables.{write-read, write-behind, read-write}
 use Rattle.packets.specs.Outcome.{gives, _when_else_}
-use Rattle.packets.specs.Records.{recordNumbers, sizeOf, arrivalOf, deadlineOf, recordTests, memoryTests, Sound, Accepted}
+use Rattle.packets.specs.Records.{recordNumbers, sizeOf, arrivalOf, deadlineOf, recordTests, Sound, Accepted}
 use Rattle.packets.specs.List.{countWidth, recordWidths, listBytes, countOn, recordsOn, wireTests, roomTest, readOutcome, recordsAfter, restAfter, writeOutcome, bytesAfter}
 use Rattle.packets.proofs.Outcomes.{passed-then, given-leaves}
-use Rattle.packets.proofs.Wire.{whole-wire, written-whole, front-same}
-use Rattle.packets.proofs.Records.{tests-past, records-sound, accepted-memory}
+use Rattle.packets.proofs.Wire.{whole-wire, written-whole, front-same, fit-rows}
+use Rattle.packets.proofs.Records.{tests-past, tests-first, records-sound, sound-records, accepted-memory}
 use Rattle.packets.proofs.Lists.{WholeList, Readable, read-readable, length-records, write-gives}
 
 -- ---- written and read back
 
--- sound records fit their widths
-fit-records : (n i : ℕ) (records : List ℕ) → recordNumbers * (i + n) ≤ length records
-    → ((k : ℕ) → i ≤ k → k < i + n → Sound (sizeOf records k) (arrivalOf records k) (deadlineOf records k))
-    → Fit (rows n recordWidths) (take (recordNumbers * n) (drop (recordNumbers * i) records))
-unfolding rows sizeOf arrivalOf deadlineOf
-fit-records zero i records held sound = tt
-fit-records (suc n) i records held sound =
-    let s = sound i (omega arith) (omega arith) in
-    let a = recordNumbers * i in
-    let more : recordNumbers * suc n ≡ suc (suc (suc (recordNumbers * n))) = omega arith in
-    let next : recordNumbers * suc i ≡ suc (suc (suc a)) = omega arith in
-    let one : suc a ≡ a + 1 = omega arith in
-    let two : suc (suc a) ≡ a + 2 = omega arith in
-    let front : drop a records ≡ getD records a 0 ∷ getD records (suc a) 0 ∷ getD records (suc (suc a)) 0 ∷ drop (suc (suc (suc a))) records =
-    drop-cons records a 0 (omega arith)
-    ∙ ap (λ (l : List ℕ). getD records a 0 ∷ l) (drop-cons records (suc a) 0 (omega arith))
-    ∙ ap (λ (l : List ℕ). getD records a 0 ∷ getD records (suc a) 0 ∷ l) (drop-cons records (suc (suc a)) 0 (omega arith)) in
-    let rest = fit-records n (suc i) records (omega arith) (λ k lo hi. sound k (omega arith) (omega arith)) in
-    let here : Fit (rows (suc n) recordWidths) (take (suc (suc (suc (recordNumbers * n)))) (getD records a 0 ∷ getD records (suc a) 0 ∷ getD records (suc (suc a)) 0 ∷ drop (suc (suc (suc a))) records)) =
-    (omega (arith, s .small), (rw one (omega (arith, s .early, s .today)), (rw two (omega (arith, s .today)), rw next at rest))) in
-    rw more (subst (λ (l : List ℕ). Fit (rows (suc n) recordWidths) (take (suc (suc (suc (recordNumbers * n)))) l)) (sym front) here)
+-- the numbers of a sound record fit their widths
+record-fits : (records : List ℕ) (i j : ℕ) → Sound (sizeOf records i) (arrivalOf records i) (deadlineOf records i) → j < recordNumbers
+    → getD records (recordNumbers * i + j) 0 < 2 ^ getD recordWidths j 0
+unfolding sizeOf arrivalOf deadlineOf
+record-fits records i zero s h = rw add-zero (omega (arith, s .small))
+record-fits records i (suc zero) s h = omega (arith, s .early, s .today)
+record-fits records i (suc (suc zero)) s h = omega (arith, s .today)
+record-fits records i (suc (suc (suc j))) s h = absurd (omega arith)
 
 -- a table of a count and records, read: the count, and the records behind it
 table-list : (bytes : List ℕ) (count : ℕ) → readTable bytes (countWidth ∷ []) recordWidths count ≡ countOn bytes ∷ fieldsAt bytes countWidth (rows count recordWidths)
@@ -49,15 +37,7 @@ table-list bytes count = refl
 
 -- the first records of accepted packets are accepted alike
 first-tests : (count : ℕ) (records : List ℕ) → Accepted count records → recordTests count 0 (take (recordNumbers * count) records) ≡ gives []
-unfolding memoryTests _when_else_
-first-tests count records a =
-    let z : count ≡ 0 → ⊥ = λ (e : count ≡ 0). omega (arith, a .some) in
-    let long = length-take-le (recordNumbers * count) records (a .held) in
-    let all : recordTests count 0 records ≡ gives [] =
-    simp (ne-eqb _ _ z, le-ltb _ _ (a .few), le-ltb _ _ (a .held)) at (accepted-memory count records a) in
-    sym (tests-past count (take (recordNumbers * count) records) (drop (recordNumbers * count) records) (omega arith))
-    ∙ ap (recordTests count 0) (take-append-drop (recordNumbers * count) records)
-    ∙ all
+first-tests count records a = tests-first count records (a .held) ∙ sound-records count 0 records (λ k lo hi. a .sound k (omega arith))
 
 -- Accepted packets, written into any bytes that have room.
 module _ (count : ℕ) (records lent : List ℕ) (accepted : Accepted count records) (small : Bytes lent) (long : listBytes count ≤ length lent) where
@@ -66,7 +46,7 @@ module _ (count : ℕ) (records lent : List ℕ) (accepted : Accepted count reco
 
   fits : Fit (fieldWidths (countWidth ∷ []) recordWidths count) (count ∷ take (recordNumbers * count) records)
   unfolding fieldWidths
-  fits = (omega (arith, accepted .few), fit-records count 0 records (omega (arith, accepted .held)) (λ k lo hi. accepted .sound k (omega arith)))
+  fits = (omega (arith, accepted .few), fit-rows recordWidths count records (accepted .held) (λ i j within h. record-fits records i j (accepted .sound i within) h))
 
   -- the written bytes are a whole list, and hold the count and the records
   whole-back : (countOn written ≡ count) × WholeList written

@@ -1,11 +1,10 @@
 -- Laws of the plan in a frame: the bits that it takes, what an answer that gives values tells, and what every buffer then holds. Assumes nothing.
 use Prim.Native.Nat.{ℕ, zero, suc, _+_, _-_, _*_, _/_, _<_, _≤_, _^_}
-use mathlib.Core.Path.{_≡_, refl, sym, ap, _∙_}
+use mathlib.Core.Path.{_≡_, refl, sym, ap, ap₂, _∙_}
 use mathlib.Core.List.{List, [], _∷_, _++_, append-nil}
 use native.Mathlib.Omega.{arith}
-use native.Mathlib.Nat.{zero-add}
 use lib.ListN.{length, take, drop, length-drop, drop-of-length-le}
-use lib.Seq.{sets, sets-eq, take-all}
+use lib.Seq.{sets, take-all}
 use lib.Dec.{eqb, ltb, leb}
 use borrow.Author.Tests.{eqb-false, ltb-false, leb-false, eq-eqb, ne-eqb, lt-ltb, le-ltb, lt-leb}
 use Rattle.bits.specs.Field.{fieldAt}
@@ -16,7 +15,7 @@ use Rattle.packets.specs.Wire.{tableTests}
 use Rattle.packets.specs.declared.refusal.Refusal.{Refusal}
 use Rattle.packets.specs.declared.refusal.Refusal.the-variants.{Short, NoRoom}
 use Rattle.packets.proofs.Outcomes.{when-gives, then-gives, refused-then, passed-then, given-leaves, refused-leaves}
-use Rattle.packets.proofs.Wire.{Whole, wire-whole}
+use Rattle.packets.proofs.Wire.{Whole, wire-whole, stored-given}
 use Rattle.plan.specs.Entries.{mostEntries, entryNumbers, entryWidths, entryTests}
 use Rattle.plan.specs.Frame.{headBytes, countWidth, costWidth, headWidths, frameBytes, countOn, costOn, entriesOn, unusedOn, wireTests, roomTest, readOutcome, entriesAfter, memoryTests, writeOutcome, framed, frameAfter}
 use Rattle.plan.proofs.Judging.{tests-pass}
@@ -68,10 +67,13 @@ abbrev pub WholePlan : List ℕ → Type 0
 WholePlan plan = Whole headWidths entryWidths mostEntries plan
 
 -- the entries as the reader takes them
+entries-read : (plan : List ℕ) (count : ℕ) → count ≡ countOn plan → fieldsAt plan 52 (rows count entryWidths) ≡ entriesOn plan
+unfolding entriesOn
+entries-read plan count e = rw e
+
 pub entries-are : (plan : List ℕ) (count : ℕ) → count ≡ countOn plan
     → entryTests count 0 (fieldsAt plan 52 (rows count entryWidths)) ≡ entryTests (countOn plan) 0 (entriesOn plan)
-unfolding entriesOn
-entries-are plan count e = rw e
+entries-are plan count e = ap₂ (λ (n : ℕ) (l : List ℕ). entryTests n 0 l) e (entries-read plan count e)
 
 module _ (plan : List ℕ) (room : ℕ) where
   pub wire-refuses : (refusal : Refusal) → refusalOf refusal ≡ wireTests plan → refusalOf refusal ≡ readOutcome plan room
@@ -128,19 +130,12 @@ read-told plan room count cost e =
 -- what the lent entries hold when the plan has been read, and when it has been refused
 pub read-done : (plan lent filled : List ℕ) (count cost : ℕ) → gives (count ∷ cost ∷ []) ≡ readOutcome plan (length lent)
     → filled ≡ sets lent 0 (fieldsAt plan 52 (rows count entryWidths)) → filled ≡ entriesAfter plan lent
-unfolding entriesAfter entriesOn
+unfolding entriesAfter
 read-done plan lent filled count cost e stored =
     let t = read-told plan (length lent) count cost e in
     let held = t .held in
-    let n = t .entries in
-    let long : length (fieldsAt plan 52 (rows (countOn plan) entryWidths)) ≡ entryNumbers * countOn plan = length-entries plan (countOn plan) in
-    let placed : sets lent 0 (fieldsAt plan 52 (rows (countOn plan) entryWidths))
-    ≡ fieldsAt plan 52 (rows (countOn plan) entryWidths) ++ drop (0 + length (fieldsAt plan 52 (rows (countOn plan) entryWidths))) lent =
-    sets-eq (fieldsAt plan 52 (rows (countOn plan) entryWidths)) lent 0 (omega arith) in
-    stored
-    ∙ ap (λ (k : ℕ). sets lent 0 (fieldsAt plan 52 (rows k entryWidths))) n
-    ∙ rw zero-add at placed
-    ∙ sym (given-leaves _ _ e)
+    let entries = entries-read plan count (t .entries) in
+    stored ∙ rw entries (stored-given (entriesOn plan) lent e (rw (← entries) (omega (arith, length-entries plan count))))
 
 pub read-undone : (plan lent : List ℕ) (refusal : Refusal) → refusalOf refusal ≡ readOutcome plan (length lent) → lent ≡ entriesAfter plan lent
 unfolding entriesAfter

@@ -1,16 +1,17 @@
 -- Laws of the tests of entries: what passing them means, and how far they look. Assumes nothing.
 use Prim.Native.Nat.{ℕ, _+_, _*_, _<_, _≤_, _^_}
-use mathlib.Core.Path.{_≡_, refl, ap, _∙_}
+use mathlib.Core.Path.{_≡_, refl}
 use mathlib.Core.List.{List, [], _++_}
 use native.Mathlib.Omega.{arith}
 use native.Mathlib.Nat.{add-zero}
-use lib.ListN.{length, getD, List·getD-append}
-use lib.Seq.{sets, sets-eq}
+use lib.ListN.{length, getD, take}
+use lib.Seq.{sets}
 use lib.Dec.{eqb, ltb, leb}
 use borrow.Author.Tests.{eqb-false, ltb-false, leb-false, ne-eqb, le-ltb, lt-leb}
 use Rattle.packets.specs.Limits.{lastSecond}
 use Rattle.packets.specs.Outcome.{gives, _when_else_}
-use Rattle.packets.proofs.Outcomes.{when-gives, in-order-same, in-order-pass, in-order-each}
+use Rattle.packets.proofs.Outcomes.{when-gives, in-order-pass, in-order-each, in-order-none}
+use Rattle.packets.proofs.Wire.{rows-past, rows-stored, rows-first}
 use Rattle.plan.specs.Entries.{entryNumbers, fieldOf, entryTest, entryAt, entryTests, Sound}
 
 -- ---- one entry
@@ -75,34 +76,32 @@ unfolding entryTests entryAt
 sound-entries n i entries sound = in-order-pass (entryAt entries) n i (λ k lo hi. sound-entry k _ _ _ _ _ _ (sound k lo hi))
 
 pub tests-pass : (n i : ℕ) (entries values : List ℕ) → entryTests n i entries ≡ gives values → entryTests n i entries ≡ gives []
-tests-pass n i entries values h = sound-entries n i entries (entries-sound n i entries values h)
+unfolding entryTests
+tests-pass n i entries values h = in-order-none (entryAt entries) n i h
 
 -- ---- what the tests look at
+
+-- the test of an entry looks at its own numbers
+entry-own : (a b : List ℕ) (i : ℕ) → ((j : ℕ) → j < entryNumbers → fieldOf a i j ≡ fieldOf b i j) → entryAt a i ≡ entryAt b i
+unfolding entryAt
+entry-own a b i same =
+    rw (same 0 (omega arith), same 1 (omega arith), same 2 (omega arith), same 3 (omega arith), same 4 (omega arith), same 5 (omega arith))
 
 -- entries past the count have no influence
 pub tests-past : (count : ℕ) (entries extra : List ℕ) → entryNumbers * count ≤ length entries → entryTests count 0 (entries ++ extra) ≡ entryTests count 0 entries
 unfolding entryTests
-tests-past count entries extra held = in-order-same (entryAt (entries ++ extra)) (entryAt entries) count 0 each
-  where
-    same : (k j : ℕ) → k < 0 + count → j < 6 → fieldOf (entries ++ extra) k j ≡ fieldOf entries k j
-    same k j within small = List·getD-append entries extra 0 (entryNumbers * k + j) (omega arith)
+tests-past = rows-past entryNumbers entryAt entry-own
 
-    each : (k : ℕ) → 0 ≤ k → k < 0 + count → entryAt (entries ++ extra) k ≡ entryAt entries k
-    each k lo hi =
-        (unfold entryAt in
-        (rw (
-          same k 0 hi (omega arith),
-          same k 1 hi (omega arith),
-          same k 2 hi (omega arith),
-          same k 3 hi (omega arith),
-          same k 4 hi (omega arith),
-          same k 5 hi (omega arith),
-        )))
-
--- the same of entries that were stored at the front of a longer buffer
+-- the same of entries that were stored at the front of a longer buffer, and of the entries up to the count
 pub tests-stored : (count : ℕ) (buffer entries : List ℕ) → entryNumbers * count ≤ length entries → length entries ≤ length buffer
     → entryTests count 0 (sets buffer 0 entries) ≡ entryTests count 0 entries
-tests-stored count buffer entries held room = ap (entryTests count 0) (sets-eq entries buffer 0 (omega arith)) ∙ tests-past count entries _ held
+unfolding entryTests
+tests-stored = rows-stored entryNumbers entryAt entry-own
+
+pub tests-first : (count : ℕ) (entries : List ℕ) → entryNumbers * count ≤ length entries
+    → entryTests count 0 (take (entryNumbers * count) entries) ≡ entryTests count 0 entries
+unfolding entryTests
+tests-first = rows-first entryNumbers entryAt entry-own
 
 -- the tests of entry i, which stands at number `at`
 pub test-at : (entries : List ℕ) (i at : ℕ) → at ≡ entryNumbers * i

@@ -1,12 +1,11 @@
 -- The two round trips of a plan: written and read back, the same entries and cost; read and written again, the same bytes. Then that what stands behind a
 -- plan has no influence. All stand on the table laws of the bits layer. Assumes nothing.
-use Prim.Native.Nat.{ℕ, zero, suc, _+_, _*_, _<_, _≤_}
-use mathlib.Core.Path.{_≡_, refl, sym, ap, subst, _∙_}
+use Prim.Native.Nat.{ℕ, zero, suc, _+_, _*_, _<_, _≤_, _^_}
+use mathlib.Core.Path.{_≡_, refl, sym, ap, _∙_}
 use mathlib.Core.List.{List, [], _∷_, _++_}
 use native.Mathlib.Omega.{arith}
-use native.Mathlib.Nat.{add-zero}
-use lib.ListN.{length, getD, take, drop, length-append, length-drop, take-append-drop}
-use lib.Seq.{drop-cons, take-at, drop-at, getD-drop, length-take-le}
+use lib.ListN.{length, getD, take, drop, length-append, length-drop}
+use lib.Seq.{take-at, drop-at, getD-drop, length-take-le}
 use borrow.Author.Tests.{le-ltb}
 use Rattle.bits.specs.Field.{Bytes}
 use Rattle.bits.specs.Table.{rows, fieldsAt, fieldWidths, tableBytes, readTable, writeTable, Fit}
@@ -14,62 +13,29 @@ use Rattle.bits.proofs.Fields.{field-lt}
 use Rattle.bits.proofs.Tables.{write-read, read-write}
 use Rattle.packets.specs.Outcome.{gives, _when_else_}
 use Rattle.packets.proofs.Outcomes.{passed-then, given-leaves}
-use Rattle.packets.proofs.Wire.{whole-wire, written-whole, front-same}
-use Rattle.plan.specs.Entries.{entryNumbers, entryWidths, entryTests}
+use Rattle.packets.proofs.Wire.{whole-wire, written-whole, front-same, fit-rows}
+use Rattle.plan.specs.Entries.{entryNumbers, entryWidths, fieldOf}
 use Rattle.plan.specs.Frame.{headBytes, countWidth, costWidth, headWidths, frameBytes, countOn, costOn, entriesOn, wireTests, roomTest, readOutcome, entriesAfter, writeOutcome, framed, frameAfter}
-use Rattle.plan.proofs.Judging.{SoundAt, entries-sound, tests-past}
+use Rattle.plan.proofs.Judging.{SoundAt, entries-sound, tests-past, tests-first}
 use Rattle.plan.proofs.Framing.{WholePlan, Readable, read-readable, length-entries, Fitting, fitting-memory, write-gives}
 
 -- ---- written and read back
 
--- sound entries fit their widths
-fit-entries : (n i : ℕ) (entries : List ℕ) → entryNumbers * (i + n) ≤ length entries → ((k : ℕ) → i ≤ k → k < i + n → SoundAt entries k)
-    → Fit (rows n entryWidths) (take (entryNumbers * n) (drop (entryNumbers * i) entries))
-unfolding rows
-fit-entries zero i entries held sound = tt
-fit-entries (suc n) i entries held sound =
-    let s = sound i (omega arith) (omega arith) in
-    let a = entryNumbers * i in
-    let g : ℕ → ℕ = λ (k : ℕ). getD entries (a + k) 0 in
-    let more : entryNumbers * suc n ≡ suc (suc (suc (suc (suc (suc (entryNumbers * n)))))) = omega arith in
-    let next : entryNumbers * suc i ≡ a + 6 = omega arith in
-    let front : drop a entries ≡ g 0 ∷ g 1 ∷ g 2 ∷ g 3 ∷ g 4 ∷ g 5 ∷ drop (a + 6) entries =
-    ap (λ (k : ℕ). drop k entries) (sym (add-zero a))
-    ∙ step 0 (omega arith)
-    ∙ ap (λ (l : List ℕ). g 0 ∷ l) (step 1 (omega arith))
-    ∙ ap (λ (l : List ℕ). g 0 ∷ g 1 ∷ l) (step 2 (omega arith))
-    ∙ ap (λ (l : List ℕ). g 0 ∷ g 1 ∷ g 2 ∷ l) (step 3 (omega arith))
-    ∙ ap (λ (l : List ℕ). g 0 ∷ g 1 ∷ g 2 ∷ g 3 ∷ l) (step 4 (omega arith))
-    ∙ ap (λ (l : List ℕ). g 0 ∷ g 1 ∷ g 2 ∷ g 3 ∷ g 4 ∷ l) (step 5 (omega arith)) in
-    let rest = fit-entries n (suc i) entries (omega arith) (λ k lo hi. sound k (omega arith) (omega arith)) in
-    let here : Fit (rows (suc n) entryWidths) (take (suc (suc (suc (suc (suc (suc (entryNumbers * n))))))) (g 0 ∷ g 1 ∷ g 2 ∷ g 3 ∷ g 4 ∷ g 5 ∷ drop (a + 6) entries)) = (
-      s .packet-fits,
-      (
-        omega (arith, s .start-fits),
-        (s .r-fits, (omega (arith, s .d-fits), (omega (arith, s .rising, s .to-fits), (s .to-fits, rw next at rest)))),
-      ),
-    ) in
-    rw more (subst (λ (l : List ℕ). Fit (rows (suc n) entryWidths) (take (suc (suc (suc (suc (suc (suc (entryNumbers * n))))))) l)) (sym front) here)
-  where
-    step : (k : ℕ) → k < 6 → drop (entryNumbers * i + k) entries ≡ getD entries (entryNumbers * i + k) 0 ∷ drop (entryNumbers * i + (k + 1)) entries
-    step k h =
-        let e : suc (entryNumbers * i + k) ≡ entryNumbers * i + (k + 1) = omega arith in
-        drop-cons entries (entryNumbers * i + k) 0 (omega arith) ∙ ap (λ (m : ℕ). getD entries (entryNumbers * i + k) 0 ∷ drop m entries) e
+-- the numbers of a sound entry fit their widths
+entry-fits : (entries : List ℕ) (i j : ℕ) → SoundAt entries i → j < entryNumbers → fieldOf entries i j < 2 ^ getD entryWidths j 0
+entry-fits entries i zero s h = s .packet-fits
+entry-fits entries i (suc zero) s h = omega (arith, s .start-fits)
+entry-fits entries i (suc (suc zero)) s h = s .r-fits
+entry-fits entries i (suc (suc (suc zero))) s h = omega (arith, s .d-fits)
+entry-fits entries i (suc (suc (suc (suc zero)))) s h = omega (arith, s .rising, s .to-fits)
+entry-fits entries i (suc (suc (suc (suc (suc zero))))) s h = s .to-fits
+entry-fits entries i (suc (suc (suc (suc (suc (suc j)))))) s h = absurd (omega arith)
 
 -- a table of a count, a cost and entries, read
 table-plan : (plan : List ℕ) (count : ℕ)
     → readTable plan headWidths entryWidths count ≡ countOn plan ∷ costOn plan ∷ fieldsAt plan (countWidth + costWidth) (rows count entryWidths)
 unfolding readTable fieldWidths fieldsAt countOn costOn
 table-plan plan count = refl
-
--- the first entries of those that pass, pass alike
-first-tests : (count : ℕ) (entries : List ℕ) → entryNumbers * count ≤ length entries → entryTests count 0 entries ≡ gives []
-    → entryTests count 0 (take (entryNumbers * count) entries) ≡ gives []
-first-tests count entries held all =
-    let long = length-take-le (entryNumbers * count) entries held in
-    sym (tests-past count (take (entryNumbers * count) entries) (drop (entryNumbers * count) entries) (omega arith))
-    ∙ ap (entryTests count 0) (take-append-drop (entryNumbers * count) entries)
-    ∙ all
 
 -- Entries and a cost that pass their tests, written into any frame that has room.
 module _ (count : ℕ) (entries : List ℕ) (cost : ℕ) (frame : List ℕ) (fitting : Fitting count entries cost) (long : frameBytes count ≤ length frame) where
@@ -84,7 +50,7 @@ module _ (count : ℕ) (entries : List ℕ) (cost : ℕ) (frame : List ℕ) (fit
   unfolding fieldWidths
   fits = (
     omega (arith, fitting .few),
-    (fitting .small, fit-entries count 0 entries (omega (arith, fitting .held)) (λ k lo hi. entries-sound count 0 entries [] (fitting .sound) k lo hi)),
+    (fitting .small, fit-rows entryWidths count entries (fitting .held) (λ i j within h. entry-fits entries i j (entries-sound count 0 entries [] (fitting .sound) i (omega arith) (omega arith)) h)),
   )
 
   -- the written bytes are a whole plan, and hold the count, the cost and the entries
@@ -110,7 +76,7 @@ module _ (count : ℕ) (entries : List ℕ) (cost : ℕ) (frame : List ℕ) (fit
   unfolding readOutcome roomTest _when_else_
   read-back lent held =
       passed-then _ (sym (whole-wire _ _ _ _ _ _ (omega arith) written (whole-back .1)))
-      ∙ passed-then _ (sym (rw (count-back, entries-back) (first-tests count entries (fitting .held) (fitting .sound))))
+      ∙ passed-then _ (sym (rw (count-back, entries-back) (tests-first count entries (fitting .held) ∙ fitting .sound)))
       ∙ rw (count-back, cost-back) (simp (le-ltb _ _ held))
 
   -- the plan stands in the frame from byte 8 on, behind the head as it was
