@@ -1,22 +1,21 @@
 -- Laws of the list on the wire: the bits that it takes, and what an answer that gives values tells. Assumes nothing.
-use Prim.Native.Nat.{ℕ, zero, suc, _+_, _-_, _*_, _/_, _<_, _≤_}
+use Prim.Native.Nat.{ℕ, zero, suc, _+_, _-_, _*_, _/_, _≤_}
 use mathlib.Core.Path.{_≡_, refl, sym, ap, ap₂, _∙_}
 use mathlib.Core.List.{List, [], _∷_, _++_}
 use native.Mathlib.Omega.{arith}
 use lib.ListN.{length, take, drop, length-drop}
 use lib.Seq.{sets, take-all}
 use lib.Dec.{ltb}
-use borrow.Author.Tests.{ltb-false, lt-ltb, le-ltb}
+use borrow.Author.Tests.{ltb-false, le-ltb}
 use Rattle.bits.specs.Field.{fieldAt}
 use Rattle.bits.specs.Table.{total, rows, fieldsAt, unusedBits, fieldWidths, tableBytes, unusedAt, writeTable, AtMost}
 use Rattle.bits.proofs.Tables.{total-rows, length-rows, length-fields}
 use Rattle.packets.specs.Limits.{mostPackets}
 use Rattle.packets.specs.Outcome.{Outcome, gives, refuses, _when_else_, _then_, refusalOf}
-use Rattle.packets.specs.declared.refusal.Refusal.the-variants.{NoRoom}
 use Rattle.packets.specs.Records.{recordNumbers, recordTests, memoryTests, Accepted}
 use Rattle.packets.specs.List.{countWidth, recordWidths, listBytes, countOn, recordsOn, unusedOn, wireTests, roomTest, readOutcome, recordsAfter, restAfter, writeOutcome, bytesAfter}
 use Rattle.packets.specs.declared.refusal.Refusal.{Refusal}
-use Rattle.packets.proofs.Outcomes.{when-gives, then-gives, refused-then, passed-then, given-leaves, refused-leaves}
+use Rattle.packets.proofs.Outcomes.{when-gives, then-gives, given-leaves, has-room}
 use Rattle.packets.proofs.Wire.{Whole, wire-whole, stored-given}
 use Rattle.packets.proofs.Records.{tests-pass, records-sound}
 
@@ -65,8 +64,6 @@ length-records bytes count = length-fields bytes countWidth (rows count recordWi
 abbrev pub WholeList : List ℕ → Type 0
 WholeList bytes = Whole (countWidth ∷ []) recordWidths mostPackets bytes
 
--- ---- the answer of reading, test by test
-
 -- the records as the reader takes them
 records-read : (bytes : List ℕ) (count : ℕ) → count ≡ countOn bytes → fieldsAt bytes countWidth (rows count recordWidths) ≡ recordsOn bytes
 unfolding recordsOn
@@ -75,20 +72,6 @@ records-read bytes count e = rw e
 pub records-are : (bytes : List ℕ) (count : ℕ) → count ≡ countOn bytes
     → recordTests count 0 (fieldsAt bytes countWidth (rows count recordWidths)) ≡ recordTests (countOn bytes) 0 (recordsOn bytes)
 records-are bytes count e = ap₂ (λ (n : ℕ) (l : List ℕ). recordTests n 0 l) e (records-read bytes count e)
-
-module _ (bytes : List ℕ) (room : ℕ) where
-  pub wire-refuses : (refusal : Refusal) → refusalOf refusal ≡ wireTests bytes → refusalOf refusal ≡ readOutcome bytes room
-  unfolding readOutcome
-  wire-refuses refusal e = sym (refused-then refusal _ e)
-
-  pub records-refuse : (refusal : Refusal) → gives [] ≡ wireTests bytes → refusalOf refusal ≡ recordTests (countOn bytes) 0 (recordsOn bytes)
-      → refusalOf refusal ≡ readOutcome bytes room
-  unfolding readOutcome
-  records-refuse refusal wire e = sym (passed-then _ wire ∙ refused-then refusal _ e)
-
-  pub records-pass : gives [] ≡ wireTests bytes → gives [] ≡ recordTests (countOn bytes) 0 (recordsOn bytes) → roomTest bytes room ≡ readOutcome bytes room
-  unfolding readOutcome
-  records-pass wire e = sym (passed-then _ wire ∙ passed-then _ e)
 
 -- ---- what an answer that gives values tells
 
@@ -147,39 +130,20 @@ read-done bytes lent filled count used e stored =
       stored ∙ rw records (stored-given (recordsOn bytes) lent e (rw (← records) (omega (arith, length-records bytes count)))),
     )
 
--- and when it has been refused
-pub read-undone : (bytes lent : List ℕ) (refusal : Refusal) → refusalOf refusal ≡ readOutcome bytes (length lent)
-    → (bytes ≡ restAfter bytes (length lent)) × (lent ≡ recordsAfter bytes lent)
-unfolding restAfter recordsAfter
-read-undone bytes lent refusal e = (sym (refused-leaves refusal _ _ e), sym (refused-leaves refusal _ _ e))
-
 -- ---- writing
 
-module _ (count : ℕ) (records : List ℕ) (room : ℕ) where
-  pub memory-refuses : (refusal : Refusal) → refusalOf refusal ≡ memoryTests count records → refusalOf refusal ≡ writeOutcome count records room
-  unfolding writeOutcome
-  memory-refuses refusal e = sym (refused-then refusal _ e)
+pub write-gives : (count : ℕ) (records : List ℕ) (room : ℕ) → gives [] ≡ memoryTests count records → listBytes count ≤ room
+    → gives (listBytes count ∷ []) ≡ writeOutcome count records room
+unfolding writeOutcome
+write-gives count records room e held = has-room _ _ _ e held
 
-  pub room-refuses : gives [] ≡ memoryTests count records → room < listBytes count → refusalOf NoRoom ≡ writeOutcome count records room
-  unfolding writeOutcome _when_else_
-  room-refuses e short = rw (passed-then _ e) (simp (lt-ltb _ _ short))
-
-  pub write-gives : gives [] ≡ memoryTests count records → listBytes count ≤ room → gives (listBytes count ∷ []) ≡ writeOutcome count records room
-  unfolding writeOutcome _when_else_
-  write-gives e held = rw (passed-then _ e) (simp (le-ltb _ _ held))
-
--- what stands in the lent bytes when the list has been written, and when it has been refused
+-- what stands in the lent bytes when the list has been written
 pub write-done : (count : ℕ) (records lent written : List ℕ) → gives (listBytes count ∷ []) ≡ writeOutcome count records (length lent)
     → written ≡ writeTable lent (countWidth ∷ []) recordWidths count ((count ∷ []) ++ take (count * 3) records) → written ≡ bytesAfter count records lent
 unfolding bytesAfter
 write-done count records lent written e w =
     let c : count * 3 ≡ recordNumbers * count = omega arith in
     rw c at w ∙ sym (given-leaves _ _ e)
-
-pub write-undone : (count : ℕ) (records lent : List ℕ) (refusal : Refusal) → refusalOf refusal ≡ writeOutcome count records (length lent)
-    → lent ≡ bytesAfter count records lent
-unfolding bytesAfter
-write-undone count records lent refusal e = sym (refused-leaves refusal _ _ e)
 
 -- ---- a list for the layers above
 

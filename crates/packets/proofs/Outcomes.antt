@@ -7,8 +7,11 @@ use native.Mathlib.Omega.{arith}
 use native.Mathlib.Nat.{sub-zero}
 use native.Mathlib.Numerals.{add-one}
 use native.Mathlib.Decide.{decLe}
+use lib.Dec.{ltb}
+use borrow.Author.Tests.{lt-ltb, le-ltb}
 use Rattle.packets.specs.Outcome.{Outcome, gives, refuses, _when_else_, _then_, _given_else_, inOrder, refusalOf, verdictOf}
 use Rattle.packets.specs.declared.refusal.Refusal.{Refusal}
+use Rattle.packets.specs.declared.refusal.Refusal.the-variants.{NoRoom}
 use Rattle.packets.specs.declared.judge.Verdict.{Verdict}
 use Rattle.packets.specs.declared.judge.Verdict.the-variants.{Passed, Refused}
 
@@ -51,6 +54,22 @@ passed-then next e = rw (← e)
 -- tests that refuse make the whole refuse
 pub refused-then : {tests : Outcome} (refusal : Refusal) (next : Outcome) → refusalOf refusal ≡ tests → (tests then next) ≡ refusalOf refusal
 refused-then refusal next e = rw (← e) (refusal-stands refusal next)
+
+-- a refusal is told, and leaves what was lent as it was
+pub refused-all : {A : Type 0} {tests : Outcome} (refusal : Refusal) (accepted lent : A) → refusalOf refusal ≡ tests
+    → (refusalOf refusal ≡ tests) × (lent ≡ (accepted given tests else lent))
+refused-all refusal accepted lent e = (e, sym (refused-leaves refusal accepted lent e))
+
+-- after tests that pass, the room decides: 8 where it is short, and the values where it is not
+pub no-room : {tests : Outcome} (values : List ℕ) (need room : ℕ) → gives [] ≡ tests → room < need
+    → refusalOf NoRoom ≡ (tests then refuses 8 0 when ltb room need else gives values)
+unfolding _when_else_
+no-room values need room e short = rw (passed-then _ e) (simp (lt-ltb _ _ short))
+
+pub has-room : {tests : Outcome} (values : List ℕ) (need room : ℕ) → gives [] ≡ tests → need ≤ room
+    → gives values ≡ (tests then refuses 8 0 when ltb room need else gives values)
+unfolding _when_else_
+has-room values need room e held = rw (passed-then _ e) (simp (le-ltb _ _ held))
 
 -- ---- what a verdict tells
 

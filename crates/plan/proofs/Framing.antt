@@ -6,15 +6,14 @@ use native.Mathlib.Omega.{arith}
 use lib.ListN.{length, take, drop, length-drop, drop-of-length-le}
 use lib.Seq.{sets, take-all}
 use lib.Dec.{eqb, ltb, leb}
-use borrow.Author.Tests.{eqb-false, ltb-false, leb-false, eq-eqb, ne-eqb, lt-ltb, le-ltb, lt-leb}
+use borrow.Author.Tests.{eqb-false, ltb-false, leb-false, eq-eqb, ne-eqb, le-ltb, lt-leb}
 use Rattle.bits.specs.Field.{fieldAt}
 use Rattle.bits.specs.Table.{total, rows, fieldsAt, unusedBits, fieldWidths, tableBytes, unusedAt, writeTable, AtMost}
 use Rattle.bits.proofs.Tables.{total-rows, length-rows, length-fields}
 use Rattle.packets.specs.Outcome.{gives, _when_else_, refusalOf}
 use Rattle.packets.specs.Wire.{tableTests}
-use Rattle.packets.specs.declared.refusal.Refusal.{Refusal}
-use Rattle.packets.specs.declared.refusal.Refusal.the-variants.{Short, NoRoom}
-use Rattle.packets.proofs.Outcomes.{when-gives, then-gives, refused-then, passed-then, given-leaves, refused-leaves}
+use Rattle.packets.specs.declared.refusal.Refusal.the-variants.{Short}
+use Rattle.packets.proofs.Outcomes.{when-gives, then-gives, refused-then, given-leaves, has-room}
 use Rattle.packets.proofs.Wire.{Whole, wire-whole, stored-given}
 use Rattle.plan.specs.Entries.{mostEntries, entryNumbers, entryWidths, entryTests}
 use Rattle.plan.specs.Frame.{headBytes, countWidth, costWidth, headWidths, frameBytes, countOn, costOn, entriesOn, unusedOn, wireTests, roomTest, readOutcome, entriesAfter, memoryTests, writeOutcome, framed, frameAfter}
@@ -75,20 +74,6 @@ pub entries-are : (plan : List ℕ) (count : ℕ) → count ≡ countOn plan
     → entryTests count 0 (fieldsAt plan 52 (rows count entryWidths)) ≡ entryTests (countOn plan) 0 (entriesOn plan)
 entries-are plan count e = ap₂ (λ (n : ℕ) (l : List ℕ). entryTests n 0 l) e (entries-read plan count e)
 
-module _ (plan : List ℕ) (room : ℕ) where
-  pub wire-refuses : (refusal : Refusal) → refusalOf refusal ≡ wireTests plan → refusalOf refusal ≡ readOutcome plan room
-  unfolding readOutcome
-  wire-refuses refusal e = sym (refused-then refusal _ e)
-
-  pub entries-refuse : (refusal : Refusal) → gives [] ≡ wireTests plan → refusalOf refusal ≡ entryTests (countOn plan) 0 (entriesOn plan)
-      → refusalOf refusal ≡ readOutcome plan room
-  unfolding readOutcome
-  entries-refuse refusal wire e = sym (passed-then _ wire ∙ refused-then refusal _ e)
-
-  pub entries-pass : gives [] ≡ wireTests plan → gives [] ≡ entryTests (countOn plan) 0 (entriesOn plan) → roomTest plan room ≡ readOutcome plan room
-  unfolding readOutcome
-  entries-pass wire e = sym (passed-then _ wire ∙ passed-then _ e)
-
 -- a plan that is read: whole, its entries sound, and room for them
 pub record Readable (plan : List ℕ) (room : ℕ) (values : List ℕ) : Type 0 where
   pub whole : WholePlan plan
@@ -127,7 +112,7 @@ read-told plan room count cost e =
     let bits = entries-total count in
     record { entries = n; few = omega arith; bits = omega arith; held = omega arith }
 
--- what the lent entries hold when the plan has been read, and when it has been refused
+-- what the lent entries hold when the plan has been read
 pub read-done : (plan lent filled : List ℕ) (count cost : ℕ) → gives (count ∷ cost ∷ []) ≡ readOutcome plan (length lent)
     → filled ≡ sets lent 0 (fieldsAt plan 52 (rows count entryWidths)) → filled ≡ entriesAfter plan lent
 unfolding entriesAfter
@@ -137,24 +122,12 @@ read-done plan lent filled count cost e stored =
     let entries = entries-read plan count (t .entries) in
     stored ∙ rw entries (stored-given (entriesOn plan) lent e (rw (← entries) (omega (arith, length-entries plan count))))
 
-pub read-undone : (plan lent : List ℕ) (refusal : Refusal) → refusalOf refusal ≡ readOutcome plan (length lent) → lent ≡ entriesAfter plan lent
-unfolding entriesAfter
-read-undone plan lent refusal e = sym (refused-leaves refusal _ _ e)
-
 -- ---- writing
 
-module _ (count : ℕ) (entries : List ℕ) (cost room : ℕ) where
-  pub memory-refuses : (refusal : Refusal) → refusalOf refusal ≡ memoryTests count entries cost → refusalOf refusal ≡ writeOutcome count entries cost room
-  unfolding writeOutcome
-  memory-refuses refusal e = sym (refused-then refusal _ e)
-
-  pub room-refuses : gives [] ≡ memoryTests count entries cost → room < frameBytes count → refusalOf NoRoom ≡ writeOutcome count entries cost room
-  unfolding writeOutcome _when_else_
-  room-refuses e short = rw (passed-then _ e) (simp (lt-ltb _ _ short))
-
-  pub write-gives : gives [] ≡ memoryTests count entries cost → frameBytes count ≤ room → gives (frameBytes count ∷ []) ≡ writeOutcome count entries cost room
-  unfolding writeOutcome _when_else_
-  write-gives e held = rw (passed-then _ e) (simp (le-ltb _ _ held))
+pub write-gives : (count : ℕ) (entries : List ℕ) (cost room : ℕ) → gives [] ≡ memoryTests count entries cost → frameBytes count ≤ room
+    → gives (frameBytes count ∷ []) ≡ writeOutcome count entries cost room
+unfolding writeOutcome
+write-gives count entries cost room e held = has-room _ _ _ e held
 
 -- entries in memory that pass: how many there are, and that they are lent
 pub record Fitting (count : ℕ) (entries : List ℕ) (cost : ℕ) : Type 0 where
@@ -186,12 +159,6 @@ fitting-memory count entries cost f =
     let z : count ≡ 0 → ⊥ = λ (e : count ≡ 0). omega (arith, f .some) in
     simp (ne-eqb _ _ z, le-ltb _ _ (f .few), le-ltb _ _ (f .held), lt-leb _ _ (f .small)) (f .sound)
 
--- what the lent frame holds when the plan has been written, and when it has been refused
-pub write-undone : (count : ℕ) (entries : List ℕ) (cost : ℕ) (frame : List ℕ) (refusal : Refusal) → refusalOf refusal ≡ writeOutcome count entries cost (length frame)
-    → frame ≡ frameAfter count entries cost frame
-unfolding frameAfter
-write-undone count entries cost frame refusal e = sym (refused-leaves refusal _ _ e)
-
 -- ---- the frame's part from byte 8 on
 
 -- a part that goes to the end is the rest of the frame
@@ -200,10 +167,10 @@ whole-part frame = take-all (length frame - headBytes) (drop headBytes frame) (o
 
 -- a frame shorter than its head has no count byte
 pub headless : (frame : List ℕ) (room : ℕ) → length frame < headBytes → refusalOf Short ≡ readOutcome (drop headBytes frame) room
-unfolding tableTests _when_else_
+unfolding readOutcome tableTests _when_else_
 headless frame room short =
     let none : length (drop headBytes frame) ≡ 0 = omega (arith, length-drop headBytes frame) in
-    wire-refuses (drop headBytes frame) room Short (simp (eq-eqb _ _ none))
+    sym (refused-then Short _ (simp (eq-eqb _ _ none)))
 
 -- a part that goes to the end leaves nothing behind it, and the eight head bytes before it are as they were
 pub write-done : (count : ℕ) (entries : List ℕ) (cost : ℕ) (frame part : List ℕ) → gives (frameBytes count ∷ []) ≡ writeOutcome count entries cost (length frame)

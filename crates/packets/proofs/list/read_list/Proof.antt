@@ -1,12 +1,13 @@
 -- `packets::list::read_list` meets its contract: an answer that gives values says where the list ends and that its records fit (`read-told`), and
--- what then stands in every buffer is what `read-leaves` says; a refusal leaves all as it was. Assumes nothing.
+-- what then stands in every buffer is what `read-done` says; a refusal leaves all as it was. Assumes nothing.
 use mathlib.Core.Path.{_≡_, sym, ap, _∙_}
 use mathlib.Core.List.{_∷_, []}
 use native.Mathlib.Omega.{arith}
 use lib.ListN.{length}
 use Rattle.packets.specs.Outcome.{gives, listAnswerOf}
-use Rattle.packets.specs.List.{readOutcome}
-use Rattle.packets.proofs.Lists.{read-told, read-done, read-undone, records-total, record-narrow}
+use Rattle.packets.specs.List.{readOutcome, recordsAfter, restAfter}
+use Rattle.packets.proofs.Outcomes.{refused-leaves}
+use Rattle.packets.proofs.Lists.{read-told, read-done, records-total, record-narrow}
 use borrow.Author.Needs.{needs}
 use Rattle.packets.proofs.list.read_list.Statement.{statement}
 use Rattle.packets.proofs.list.read_list.Tie as tie
@@ -52,7 +53,10 @@ returns : tie.Need-returns
 returns c = read-done _ _ _ _ _ (told (c .before .before .before .before .before .before .before)) (c .before .before .before .read-rows .ensures)
 
 returns-2 : tie.Need-returns-2
-returns-2 c = read-undone _ _ (c .enum-told .given .0 .0) (sym (ap listAnswerOf (c .enum-told .given .1)) ∙ c .before .before .judge-list .ensures)
+unfolding restAfter recordsAfter
+returns-2 c =
+    let e = sym (ap listAnswerOf (c .enum-told .given .1)) ∙ c .before .before .judge-list .ensures in
+    (sym (refused-leaves (c .enum-told .given .0 .0) _ _ e), sym (refused-leaves (c .enum-told .given .0 .0) _ _ e))
 
 pub read-list-spec : {M : Type 1} → statement M
 read-list-spec =

@@ -3,12 +3,12 @@ use mathlib.Core.Path.{_≡_, refl, sym}
 use mathlib.Core.List.{[]}
 use native.Mathlib.Omega.{arith}
 use Rattle.packets.specs.Outcome.{gives}
-use Rattle.packets.specs.List.{listBytes}
+use Rattle.packets.specs.List.{writeOutcome, bytesAfter}
 use Rattle.packets.specs.declared.refusal.Refusal.the-variants.{NoRoom}
 use Rattle.packets.specs.Records.{memoryTests, Accepted}
-use Rattle.packets.proofs.Outcomes.{verdict-refuses, verdict-passes}
+use Rattle.packets.proofs.Outcomes.{refused-then, refused-all, no-room, verdict-refuses, verdict-passes}
 use Rattle.packets.proofs.Records.{memory-accepted}
-use Rattle.packets.proofs.Lists.{memory-refuses, room-refuses, write-gives, write-done, write-undone, list-total, count-narrow, record-narrow}
+use Rattle.packets.proofs.Lists.{write-gives, write-done, list-total, count-narrow, record-narrow}
 use borrow.Author.Needs.{needs}
 use Rattle.packets.proofs.list.write_list.Statement.{statement}
 use Rattle.packets.proofs.list.write_list.Tie as tie
@@ -20,11 +20,10 @@ enum-known-verdict : tie.Need-enum-known-verdict
 enum-known-verdict c = search needs
 
 returns : tie.Need-returns
+unfolding writeOutcome bytesAfter
 returns c =
-    let e =
-    memory-refuses _ _ _ (c .before .verdict .given .0 .0)
-    (verdict-refuses (c .before .verdict .given .1) (c .before .before .before .judge-packets .ensures)) in
-    (e, write-undone _ _ _ (c .before .verdict .given .0 .0) e)
+    refused-all (c .before .verdict .given .0 .0) _ _
+    (sym (refused-then (c .before .verdict .given .0 .0) _ (verdict-refuses (c .before .verdict .given .1) (c .before .before .before .judge-packets .ensures))))
 
 enum-told : tie.Need-enum-told
 enum-told c = search needs
@@ -40,9 +39,8 @@ list-bytes-requires : tie.Need-list-bytes-requires
 list-bytes-requires c κs = let few = accepted c .few in omega arith
 
 returns-2 : tie.Need-returns-2
-returns-2 c =
-    let e = room-refuses _ _ _ (passes (c .before .before)) (rw (c .before .list-bytes .ensures) at (c .if1 .taken)) in
-    (e, write-undone _ _ _ NoRoom e)
+unfolding writeOutcome bytesAfter
+returns-2 c = refused-all NoRoom _ _ (no-room _ _ _ (passes (c .before .before)) (rw (c .before .list-bytes .ensures) at (c .if1 .taken)))
 
 slice-aggregate-write-table : tie.Need-slice-aggregate-write-table
 slice-aggregate-write-table c = search needs
@@ -54,7 +52,6 @@ slice-aggregate-write-table-3 : tie.Need-slice-aggregate-write-table-3
 slice-aggregate-write-table-3 c = search needs
 
 write-table-requires : tie.Need-write-table-requires
-unfolding listBytes
 write-table-requires c κs =
     let t = c .before .before .before .before in
     let a = accepted (t .before .before) in

@@ -2,13 +2,12 @@
 use mathlib.Core.Path.{_≡_, sym, _∙_}
 use mathlib.Core.List.{[]}
 use native.Mathlib.Omega.{arith}
-use borrow.Author.Tests.{lt-ltb, le-ltb}
-use Rattle.packets.specs.Outcome.{gives, _when_else_}
+use Rattle.packets.specs.Outcome.{gives}
 use Rattle.plan.specs.Entries.{entryTests}
-use Rattle.plan.specs.Frame.{wireTests, countOn, costOn, entriesOn, roomTest}
-use Rattle.packets.proofs.Outcomes.{verdict-refuses, verdict-passes}
+use Rattle.plan.specs.Frame.{wireTests, countOn, costOn, entriesOn, roomTest, readOutcome}
+use Rattle.packets.proofs.Outcomes.{passed-then, refused-then, no-room, has-room, verdict-refuses, verdict-passes}
 use Rattle.packets.proofs.Wire.{wire-whole}
-use Rattle.plan.proofs.Framing.{WholePlan, plan-bytes-is, entries-are, wire-refuses, entries-refuse, entries-pass}
+use Rattle.plan.proofs.Framing.{WholePlan, plan-bytes-is, entries-are}
 use borrow.Author.Needs.{needs}
 use Rattle.plan.proofs.frame.judge_plan.Statement.{statement}
 use Rattle.plan.proofs.frame.judge_plan.Tie as tie
@@ -20,7 +19,8 @@ enum-known-wire : tie.Need-enum-known-wire
 enum-known-wire c = search needs
 
 returns : tie.Need-returns
-returns c = wire-refuses _ _ (c .before .wire .given .0 .0) (verdict-refuses (c .before .wire .given .1) (c .before .before .before .judge-wire .ensures))
+unfolding readOutcome
+returns c = sym (refused-then (c .before .wire .given .0 .0) _ (verdict-refuses (c .before .wire .given .1) (c .before .before .before .judge-wire .ensures)))
 
 enum-told : tie.Need-enum-told
 enum-told c = search needs
@@ -48,10 +48,13 @@ enum-known-fields : tie.Need-enum-known-fields
 enum-known-fields c = search needs
 
 returns-2 : tie.Need-returns-2
+unfolding readOutcome
 returns-2 c =
     let t = c .before .before .before .before in
-    entries-refuse _ _ (c .before .fields .given .0 .0) (passes (t .before))
-    (verdict-refuses (c .before .fields .given .1) (c .before .before .before .judge-fields .ensures) ∙ entries-are _ _ (t .count-on .ensures .0))
+    sym
+    (passed-then _ (passes (t .before))
+    ∙ refused-then (c .before .fields .given .0 .0) _
+    (verdict-refuses (c .before .fields .given .1) (c .before .before .before .judge-fields .ensures) ∙ entries-are _ _ (t .count-on .ensures .0)))
 
 enum-told-2 : tie.Need-enum-told-2
 enum-told-2 c = search needs
@@ -67,10 +70,10 @@ mul-if1 : tie.Need-mul-if1
 mul-if1 c = search needs
 
 returns-3 : tie.Need-returns-3
-unfolding roomTest _when_else_
+unfolding readOutcome roomTest
 returns-3 c =
     let t = c .before .before .before .before in
-    rw (← entries-pass _ _ (passes (t .before)) (left (c .before)), ← t .count-on .ensures .0) (simp (lt-ltb _ _ (c .if1 .taken)))
+    no-room _ _ _ (left (c .before)) (rw (t .count-on .ensures .0) at (c .if1 .taken)) ∙ sym (passed-then _ (passes (t .before)))
 
 get-requires : tie.Need-get-requires
 get-requires c κs =
@@ -79,11 +82,11 @@ get-requires c κs =
     (omega arith, omega arith, omega arith)
 
 returns-4 : tie.Need-returns-4
-unfolding roomTest costOn _when_else_
+unfolding readOutcome roomTest costOn
 returns-4 c =
     let t = c .before .before .before .before .before in
-    rw (← entries-pass _ _ (passes (t .before)) (left (c .before .before)), ← t .count-on .ensures .0, c .get .ensures .0)
-    (simp (le-ltb _ _ (c .before .if1 .left)))
+    rw (c .get .ensures .0, t .count-on .ensures .0)
+    (has-room _ _ _ (left (c .before .before)) (rw (t .count-on .ensures .0) at (c .before .if1 .left)) ∙ sym (passed-then _ (passes (t .before))))
 
 pub judge-plan-spec : {M : Type 1} → statement M
 judge-plan-spec =

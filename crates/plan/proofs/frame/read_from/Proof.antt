@@ -5,8 +5,9 @@ use mathlib.Core.List.{_∷_, []}
 use native.Mathlib.Omega.{arith}
 use lib.ListN.{length}
 use Rattle.packets.specs.Outcome.{gives}
-use Rattle.plan.specs.Frame.{readAnswerOf, readOutcome}
-use Rattle.plan.proofs.Framing.{read-told, read-done, read-undone, entries-total, entry-narrow}
+use Rattle.packets.proofs.Outcomes.{refused-leaves}
+use Rattle.plan.specs.Frame.{readAnswerOf, readOutcome, entriesAfter}
+use Rattle.plan.proofs.Framing.{read-told, read-done, entries-total, entry-narrow}
 use borrow.Author.Needs.{needs}
 use Rattle.plan.proofs.frame.read_from.Statement.{statement}
 use Rattle.plan.proofs.frame.read_from.Tie as tie
@@ -45,9 +46,10 @@ enum-told : tie.Need-enum-told
 enum-told c = search needs
 
 returns-2 : tie.Need-returns-2
+unfolding entriesAfter
 returns-2 c =
     let e = c .before .before .judge-plan .ensures in
-    (e, read-undone _ _ (c .enum-told .given .0 .0) (sym (ap readAnswerOf (c .enum-told .given .1)) ∙ e))
+    (e, sym (refused-leaves (c .enum-told .given .0 .0) _ _ (sym (ap readAnswerOf (c .enum-told .given .1)) ∙ e)))
 
 pub read-from-spec : {M : Type 1} → statement M
 read-from-spec =

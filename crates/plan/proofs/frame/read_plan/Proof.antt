@@ -1,15 +1,16 @@
 -- `plan::frame::read_plan` meets its contract: a frame shorter than its head has no count byte, and the part of any other from byte 8 on is read.
 -- Assumes nothing.
 use Rattle.packets.specs.declared.refusal.Refusal.the-variants.{Short}
-use Rattle.plan.proofs.Framing.{headless, read-undone, whole-part}
+use Rattle.packets.proofs.Outcomes.{refused-all}
+use Rattle.plan.specs.Frame.{entriesAfter}
+use Rattle.plan.proofs.Framing.{headless, whole-part}
 use borrow.Author.Needs.{needs}
 use Rattle.plan.proofs.frame.read_plan.Statement.{statement}
 use Rattle.plan.proofs.frame.read_plan.Tie as tie
 
 returns : tie.Need-returns
-returns c =
-    let e = headless (c .before .before .before .args .frame .now) _ (c .if1 .taken) in
-    (e, read-undone _ _ Short e)
+unfolding entriesAfter
+returns c = refused-all Short _ _ (headless (c .before .before .before .args .frame .now) _ (c .if1 .taken))
 
 sub-read-from : tie.Need-sub-read-from
 sub-read-from c = search needs

@@ -6,9 +6,9 @@ use native.Mathlib.Omega.{arith}
 use lib.ListN.{length-drop}
 use Rattle.packets.specs.Outcome.{gives}
 use Rattle.packets.specs.declared.refusal.Refusal.the-variants.{NoRoom}
-use Rattle.packets.proofs.Outcomes.{verdict-refuses, verdict-passes}
-use Rattle.plan.specs.Frame.{memoryTests, frameBytes}
-use Rattle.plan.proofs.Framing.{Fitting, memory-fitting, memory-refuses, room-refuses, write-gives, write-done, write-undone, plan-total, whole-part, head-narrow, entry-narrow}
+use Rattle.packets.proofs.Outcomes.{refused-then, refused-all, no-room, verdict-refuses, verdict-passes}
+use Rattle.plan.specs.Frame.{memoryTests, frameBytes, writeOutcome, frameAfter}
+use Rattle.plan.proofs.Framing.{Fitting, memory-fitting, write-gives, write-done, plan-total, whole-part, head-narrow, entry-narrow}
 use borrow.Author.Needs.{needs}
 use Rattle.plan.proofs.frame.write_plan.Statement.{statement}
 use Rattle.plan.proofs.frame.write_plan.Tie as tie
@@ -20,11 +20,10 @@ enum-known-verdict : tie.Need-enum-known-verdict
 enum-known-verdict c = search needs
 
 returns : tie.Need-returns
+unfolding writeOutcome frameAfter
 returns c =
-    let e =
-    memory-refuses _ _ _ _ (c .before .verdict .given .0 .0)
-    (verdict-refuses (c .before .verdict .given .1) (c .before .before .before .judge-memory .ensures)) in
-    (e, write-undone _ _ _ _ (c .before .verdict .given .0 .0) e)
+    refused-all (c .before .verdict .given .0 .0) _ _
+    (sym (refused-then (c .before .verdict .given .0 .0) _ (verdict-refuses (c .before .verdict .given .1) (c .before .before .before .judge-memory .ensures))))
 
 enum-told : tie.Need-enum-told
 enum-told c = search needs
@@ -44,9 +43,8 @@ frame-bytes-requires : tie.Need-frame-bytes-requires
 frame-bytes-requires c κs = let few = fitting c .few in omega arith
 
 returns-2 : tie.Need-returns-2
-returns-2 c =
-    let e = room-refuses _ _ _ _ (passes (c .before .before)) (rw (c .before .frame-bytes .ensures .0) at (c .if1 .taken)) in
-    (e, write-undone _ _ _ _ NoRoom e)
+unfolding writeOutcome frameAfter
+returns-2 c = refused-all NoRoom _ _ (no-room _ _ _ (passes (c .before .before)) (rw (c .before .frame-bytes .ensures .0) at (c .if1 .taken)))
 
 sub-write-table : tie.Need-sub-write-table
 sub-write-table c = search needs
