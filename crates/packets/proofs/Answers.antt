@@ -1,4 +1,4 @@
--- Each promise admits one answer only. An answer is known by its number and values, since `decoded` gives it back from them; what is left in a lent
+-- Each promise admits one answer only, and a refusal leaves what was lent as it was. An answer is known by its number and values, since `decoded` gives it back from them; what is left in a lent
 -- buffer is stated as an equation. Assumes nothing.
 use Prim.Native.Nat.{ℕ}
 use mathlib.Core.Path.{_≡_, refl, sym, ap, _∙_}
@@ -6,6 +6,7 @@ use native.Mathlib.Omega.{arith}
 use mathlib.Core.List.{List, []}
 use mathlib.Core.Bool.{Bool, true, false}
 use lib.Dec.{eqb}
+use lib.ListN.{length}
 use Rattle.packets.specs.declared.refusal.Refusal.{Refusal}
 use Rattle.packets.specs.declared.refusal.Refusal.the-variants.{Short, NoPackets, TooManyPackets, Size, Deadline, Arrival, UnusedBit, NoRoom, EntryCount, Entry, Cost}
 use Rattle.packets.specs.declared.judge.Verdict.{Verdict}
@@ -16,7 +17,8 @@ use Rattle.packets.specs.declared.list.WrittenAnswer.{WrittenAnswer}
 use Rattle.packets.specs.declared.list.WrittenAnswer.the-variants as written-answer
 use Rattle.packets.specs.Outcome.{Outcome, gives, refuses, refusalOf, verdictOf, listAnswerOf, writtenAnswerOf}
 use Rattle.packets.specs.Records.{memoryTests}
-use Rattle.packets.specs.List.{ListJudged, ListRead, ListWritten}
+use Rattle.packets.specs.List.{readOutcome, recordsAfter, restAfter, bytesAfter, ListJudged, ListRead, ListWritten}
+use Rattle.packets.proofs.Outcomes.{refused-leaves}
 
 -- ---- refusals
 
@@ -101,3 +103,14 @@ list-read-once bytes lent rest rest′ after after′ p q = (p .0 ∙ sym (q .0)
 pub list-written-once : (count : ℕ) (records lent : List ℕ) (a b : WrittenAnswer) (after after′ : List ℕ)
     → ListWritten count records lent a after → ListWritten count records lent b after′ → (a ≡ b) × (after ≡ after′)
 list-written-once count records lent a b after after′ p q = (written-answer-one a b (p .0 ∙ sym (q .0)), p .1 ∙ sym (q .1))
+
+-- ---- a refusal changes nothing that was lent
+
+pub list-read-undone : (bytes lent rest after : List ℕ) (refusal : Refusal) → refusalOf refusal ≡ readOutcome bytes (length lent) → ListRead bytes lent rest after
+    → (rest ≡ bytes) × (after ≡ lent)
+unfolding restAfter recordsAfter
+list-read-undone bytes lent rest after refusal e p = (p .0 ∙ refused-leaves refusal _ bytes e, p .1 ∙ refused-leaves refusal _ lent e)
+
+pub list-written-undone : (count : ℕ) (records lent after : List ℕ) (refusal : Refusal) → ListWritten count records lent (written-answer.Refused refusal) after → after ≡ lent
+unfolding bytesAfter
+list-written-undone count records lent after refusal p = p .1 ∙ refused-leaves refusal _ lent (p .0)
