@@ -7,13 +7,12 @@ use lib.ListN.{length, take, drop, length-drop}
 use lib.Seq.{sets, take-all}
 use lib.Dec.{ltb}
 use borrow.Author.Tests.{ltb-false, le-ltb}
-use Rattle.bits.specs.Field.{fieldAt}
-use Rattle.bits.specs.Table.{total, rows, fieldsAt, unusedBits, fieldWidths, tableBytes, unusedAt, writeTable, AtMost}
+use Rattle.bits.specs.Table.{total, rows, fieldsAt, fieldWidths, tableBytes, writeTable, AtMost}
 use Rattle.bits.proofs.Tables.{total-rows, length-rows, length-fields}
 use Rattle.packets.specs.Limits.{mostPackets}
 use Rattle.packets.specs.Outcome.{Outcome, gives, refuses, _when_else_, _then_, refusalOf}
 use Rattle.packets.specs.Records.{recordNumbers, recordTests, memoryTests, Accepted}
-use Rattle.packets.specs.List.{countWidth, recordWidths, listBytes, countOn, recordsOn, unusedOn, wireTests, roomTest, readOutcome, recordsAfter, restAfter, writeOutcome, bytesAfter}
+use Rattle.packets.specs.List.{countWidth, recordWidths, listBytes, countOn, recordsOn, wireTests, roomTest, readOutcome, recordsAfter, restAfter, writeOutcome, bytesAfter}
 use Rattle.packets.specs.declared.refusal.Refusal.{Refusal}
 use Rattle.packets.proofs.Outcomes.{when-gives, then-gives, given-leaves, has-room}
 use Rattle.packets.proofs.Wire.{Whole, wire-whole, stored-given}
@@ -38,10 +37,6 @@ list-total count = omega (arith, records-total count)
 pub list-bytes-is : (count : ℕ) → listBytes count ≡ (7 + 50 * count + 7) / 8
 unfolding tableBytes
 list-bytes-is count = rw list-total
-
-pub unused-is : (bytes : List ℕ) → unusedOn bytes ≡ fieldAt bytes (7 + 50 * countOn bytes) (unusedBits (7 + 50 * countOn bytes))
-unfolding unusedAt
-unused-is bytes = rw list-total
 
 -- no field of a list is wider than 64 bits
 pub count-narrow : AtMost 64 (countWidth ∷ [])

@@ -8,10 +8,10 @@ use native.Mathlib.Nat.{zero-add, mul-le-mul-left}
 use lib.ListN.{length, getD, take, drop, length-drop, take-append-drop, List·getD-append}
 use lib.Seq.{sets, sets-eq, getD-take, getD-drop, length-take-le}
 use lib.Dec.{eqb, ltb}
-use borrow.Author.Tests.{eqb-false, ltb-false, ne-eqb, le-ltb}
+use borrow.Author.Tests.{eqb-false, ltb-false, eq-eqb, ne-eqb, lt-ltb, le-ltb}
 use Rattle.bits.specs.Table.{total, rows, fieldsAt, fieldWidths, tableBytes, readTable, unusedAt, writeTable, Fit}
 use Rattle.bits.proofs.Tables.{write-read, length-write, read-front}
-use Rattle.packets.specs.Outcome.{Outcome, gives, _when_else_, _given_else_, inOrder}
+use Rattle.packets.specs.Outcome.{Outcome, gives, refuses, _when_else_, _given_else_, inOrder}
 use Rattle.packets.specs.Wire.{countAt, tableTests}
 use Rattle.packets.proofs.Outcomes.{when-gives, given-leaves, in-order-same}
 
@@ -84,6 +84,32 @@ module _ (w : ℕ) (more row : List ℕ) (most none many : ℕ) where
       let z : length a ≡ 0 → ⊥ = λ (e : length a ≡ 0). omega arith in
       let y : length b ≡ 0 → ⊥ = λ (e : length b ≡ 0). omega arith in
       (n, same .0, rw (n, same .1) (simp (ne-eqb _ _ z, ne-eqb _ _ y, le-ltb _ _ long-a, le-ltb _ _ long-b)))
+
+-- ---- the tests one by one, as code makes them
+
+-- Some bytes, and the count that was read from their front.
+module _ (w : ℕ) (more row : List ℕ) (most none many : ℕ) (bytes : List ℕ) (count : ℕ) (n : count ≡ countAt bytes (w ∷ more)) (any : length bytes ≡ 0 → ⊥) where
+  pub no-rows : count ≡ 0 → refuses none 0 ≡ tableTests (w ∷ more) row most none many bytes
+  unfolding tableTests _when_else_
+  no-rows zero-count = rw (← n) (simp (ne-eqb _ _ any, eq-eqb _ _ zero-count))
+
+  pub many-rows : (count ≡ 0 → ⊥) → most < count → refuses many 0 ≡ tableTests (w ∷ more) row most none many bytes
+  unfolding tableTests _when_else_
+  many-rows some above = rw (← n) (simp (ne-eqb _ _ any, ne-eqb _ _ some, lt-ltb _ _ above))
+
+  pub few-bytes : (count ≡ 0 → ⊥) → count ≤ most → length bytes < tableBytes (w ∷ more) row count → refuses 1 0 ≡ tableTests (w ∷ more) row most none many bytes
+  unfolding tableTests _when_else_
+  few-bytes some few short = rw (← n) (simp (ne-eqb _ _ any, ne-eqb _ _ some, le-ltb _ _ few, lt-ltb _ _ short))
+
+  pub unused-bit : (count ≡ 0 → ⊥) → count ≤ most → tableBytes (w ∷ more) row count ≤ length bytes → 0 < unusedAt bytes (w ∷ more) row count
+      → refuses 7 0 ≡ tableTests (w ∷ more) row most none many bytes
+  unfolding tableTests _when_else_
+  unused-bit some few held set = rw (← n) (simp (ne-eqb _ _ any, ne-eqb _ _ some, le-ltb _ _ few, le-ltb _ _ held, lt-ltb _ _ set))
+
+  pub no-fault : (count ≡ 0 → ⊥) → count ≤ most → tableBytes (w ∷ more) row count ≤ length bytes → unusedAt bytes (w ∷ more) row count ≤ 0
+      → gives [] ≡ tableTests (w ∷ more) row most none many bytes
+  unfolding tableTests _when_else_
+  no-fault some few held clear = rw (← n) (simp (ne-eqb _ _ any, ne-eqb _ _ some, le-ltb _ _ few, le-ltb _ _ held, le-ltb _ _ clear))
 
 -- ---- rows
 

@@ -5,7 +5,7 @@ use mathlib.Core.Path.{_≡_}
 use mathlib.Core.List.{List, [], _∷_, _++_}
 use lib.ListN.{length, take, drop}
 use lib.Dec.{ltb}
-use Rattle.bits.specs.Table.{rows, fieldsAt, tableBytes, unusedAt, writeTable}
+use Rattle.bits.specs.Table.{rows, fieldsAt, tableBytes, writeTable}
 use Rattle.packets.specs.Limits.{mostPackets}
 use Rattle.packets.specs.Outcome.{Outcome, gives, refuses, _when_else_, _then_, _given_else_, listAnswerOf, writtenAnswerOf}
 use Rattle.packets.specs.Wire.{countAt, tableTests}
@@ -34,10 +34,6 @@ countOn bytes = countAt bytes (countWidth ∷ [])
 -- the records behind it, as numbers
 unfoldable pub recordsOn : List ℕ → List ℕ
 recordsOn bytes = fieldsAt bytes countWidth (rows (countOn bytes) recordWidths)
-
--- what stands in the unused bits of the list's last byte
-abbrev pub unusedOn : List ℕ → ℕ
-unusedOn bytes = unusedAt bytes (countWidth ∷ []) recordWidths (countOn bytes)
 
 -- the tests of the bytes alone, those of any table (Wire): no bytes (1), 2, 3, 1, 7
 abbrev pub wireTests : List ℕ → Outcome

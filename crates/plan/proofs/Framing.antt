@@ -7,8 +7,7 @@ use lib.ListN.{length, take, drop, length-drop, drop-of-length-le}
 use lib.Seq.{sets, take-all}
 use lib.Dec.{eqb, ltb, leb}
 use borrow.Author.Tests.{eqb-false, ltb-false, leb-false, eq-eqb, ne-eqb, le-ltb, lt-leb}
-use Rattle.bits.specs.Field.{fieldAt}
-use Rattle.bits.specs.Table.{total, rows, fieldsAt, unusedBits, fieldWidths, tableBytes, unusedAt, writeTable, AtMost}
+use Rattle.bits.specs.Table.{total, rows, fieldsAt, fieldWidths, tableBytes, writeTable, AtMost}
 use Rattle.bits.proofs.Tables.{total-rows, length-rows, length-fields}
 use Rattle.packets.specs.Outcome.{gives, _when_else_, refusalOf}
 use Rattle.packets.specs.Wire.{tableTests}
@@ -16,7 +15,7 @@ use Rattle.packets.specs.declared.refusal.Refusal.the-variants.{Short}
 use Rattle.packets.proofs.Outcomes.{when-gives, then-gives, refused-then, given-leaves, has-room}
 use Rattle.packets.proofs.Wire.{Whole, wire-whole, stored-given}
 use Rattle.plan.specs.Entries.{mostEntries, entryNumbers, entryWidths, entryTests}
-use Rattle.plan.specs.Frame.{headBytes, countWidth, costWidth, headWidths, frameBytes, countOn, costOn, entriesOn, unusedOn, wireTests, roomTest, readOutcome, entriesAfter, memoryTests, writeOutcome, framed, frameAfter}
+use Rattle.plan.specs.Frame.{headBytes, countWidth, costWidth, headWidths, frameBytes, countOn, costOn, entriesOn, wireTests, roomTest, readOutcome, entriesAfter, memoryTests, writeOutcome, framed, frameAfter}
 use Rattle.plan.proofs.Judging.{tests-pass}
 
 -- ---- the bits of a plan
@@ -35,10 +34,6 @@ plan-total count = omega (arith, entries-total count)
 pub plan-bytes-is : (count : ℕ) → tableBytes headWidths entryWidths count ≡ (52 + 140 * count + 7) / 8
 unfolding tableBytes
 plan-bytes-is count = rw plan-total
-
-pub unused-is : (plan : List ℕ) → unusedOn plan ≡ fieldAt plan (52 + 140 * countOn plan) (unusedBits (52 + 140 * countOn plan))
-unfolding unusedAt
-unused-is plan = rw plan-total
 
 -- no field of a plan is wider than 64 bits
 pub head-narrow : AtMost 64 headWidths

@@ -6,7 +6,7 @@ use mathlib.Core.List.{List, [], _∷_, _++_}
 use lib.ListN.{length, take, drop}
 use lib.Dec.{eqb, ltb, leb}
 use Rattle.bits.specs.Field.{fieldAt}
-use Rattle.bits.specs.Table.{rows, fieldsAt, tableBytes, unusedAt, writeTable}
+use Rattle.bits.specs.Table.{rows, fieldsAt, tableBytes, writeTable}
 use Rattle.packets.specs.Outcome.{Outcome, gives, refuses, _when_else_, _then_, _given_else_, refusalOf}
 use Rattle.packets.specs.Wire.{countAt, tableTests}
 use Rattle.plan.specs.Entries.{mostEntries, entryNumbers, entryWidths, entryTests}
@@ -61,10 +61,6 @@ costOn plan = fieldAt plan countWidth costWidth
 -- the entries behind them, as numbers
 unfoldable pub entriesOn : List ℕ → List ℕ
 entriesOn plan = fieldsAt plan (countWidth + costWidth) (rows (countOn plan) entryWidths)
-
--- what stands in the unused bits of the plan's last byte
-abbrev pub unusedOn : List ℕ → ℕ
-unusedOn plan = unusedAt plan headWidths entryWidths (countOn plan)
 
 -- the tests of the bytes alone, those of any table (Wire of packets): no count byte (1), 9, 1, 7
 abbrev pub wireTests : List ℕ → Outcome

@@ -1,12 +1,15 @@
 -- `packets::list::judge_wire` meets its contract: at each return the tests that led there say which case of `wireTests` holds. Assumes nothing.
-use mathlib.Core.Path.{_≡_, sym, _∙_}
+use mathlib.Core.Path.{_≡_, _∙_}
+use mathlib.Core.List.{_∷_, []}
 use native.Mathlib.Omega.{arith}
 use borrow.Author.Needs.{needs}
-use borrow.Author.Tests.{eq-eqb, ne-eqb, lt-ltb, le-ltb}
+use borrow.Author.Tests.{eq-eqb}
+use Rattle.bits.specs.Table.{unusedAt}
 use Rattle.packets.specs.Outcome.{_when_else_}
 use Rattle.packets.specs.Wire.{tableTests}
-use Rattle.packets.specs.List.{unusedOn}
-use Rattle.packets.proofs.Lists.{list-bytes-is, unused-is}
+use Rattle.packets.specs.List.{countWidth, recordWidths}
+use Rattle.packets.proofs.Wire.{no-rows, many-rows, few-bytes, unused-bit, no-fault}
+use Rattle.packets.proofs.Lists.{list-total, list-bytes-is}
 use Rattle.packets.proofs.list.judge_wire.Statement.{statement}
 use Rattle.packets.proofs.list.judge_wire.Tie as tie
 
@@ -18,28 +21,19 @@ count-on-requires : tie.Need-count-on-requires
 count-on-requires c κs = search needs
 
 returns-2 : tie.Need-returns-2
-unfolding tableTests _when_else_
-returns-2 c = rw (← c .before .count-on .ensures .0) (simp (ne-eqb _ _ (c .before .before .if1 .left), eq-eqb _ _ (c .if2 .taken)))
+returns-2 c = no-rows _ _ _ _ _ _ _ _ (c .before .count-on .ensures .0) (c .before .before .if1 .left) (c .if2 .taken)
 
 returns-3 : tie.Need-returns-3
-unfolding tableTests _when_else_
-returns-3 c =
-    rw (← c .before .before .count-on .ensures .0)
-    (simp (ne-eqb _ _ (c .before .before .before .if1 .left), ne-eqb _ _ (c .before .if2 .left), lt-ltb _ _ (c .if3 .taken)))
+returns-3 c = many-rows _ _ _ _ _ _ _ _ (c .before .before .count-on .ensures .0) (c .before .before .before .if1 .left) (c .before .if2 .left) (c .if3 .taken)
 
 list-bytes-requires : tie.Need-list-bytes-requires
 list-bytes-requires c κs = search needs
 
 returns-4 : tie.Need-returns-4
-unfolding tableTests _when_else_
 returns-4 c =
-    rw (← c .before .before .before .before .count-on .ensures .0, ← c .before .list-bytes .ensures)
-    (simp (
-      ne-eqb _ _ (c .before .before .before .before .before .if1 .left),
-      ne-eqb _ _ (c .before .before .before .if2 .left),
-      le-ltb _ _ (c .before .before .if3 .left),
-      lt-ltb _ _ (c .if4 .taken),
-    ))
+    let t = c .before .before in
+    few-bytes _ _ _ _ _ _ _ _ (t .before .before .count-on .ensures .0) (t .before .before .before .if1 .left) (t .before .if2 .left) (t .if3 .left)
+    (rw (c .before .list-bytes .ensures) at (c .if4 .taken))
 
 mul-end : tie.Need-mul-end
 mul-end c = search needs
@@ -57,37 +51,24 @@ get-requires c κs =
     (omega arith, omega arith, omega arith)
 
 -- what was read from the unused bits
-unused : (c : tie.After-get) → c .get .result ≡ unusedOn (c .before .before .before .before .before .before .before .before .before .args .bytes .now)
-unused c =
-    let n = c .before .before .before .before .before .before .count-on .ensures .0 in
-    let s = c .before .before .before .before .before .before .before .before .before in
-    c .get .ensures .0 ∙ rw (c .before .unused-bits .ensures .0) (rw n (sym (unused-is (s .args .bytes .now))))
+unused : (c : tie.After-get)
+    → c .get .result ≡ unusedAt (c .before .before .before .before .before .before .before .before .before .args .bytes .now) (countWidth ∷ []) recordWidths (c .before .before .before .before .before .before .count-on .result)
+unfolding unusedAt
+unused c = c .get .ensures .0 ∙ rw (c .before .unused-bits .ensures .0, list-total)
 
 returns-5 : tie.Need-returns-5
-unfolding tableTests _when_else_
 returns-5 c =
     let t = c .before .before .before in
-    rw (← unused (c .before), ← t .before .before .before .before .count-on .ensures .0, ← t .before .list-bytes .ensures)
-    (simp (
-      ne-eqb _ _ (t .before .before .before .before .before .if1 .left),
-      ne-eqb _ _ (t .before .before .before .if2 .left),
-      le-ltb _ _ (t .before .before .if3 .left),
-      le-ltb _ _ (t .if4 .left),
-      lt-ltb _ _ (c .if5 .taken),
-    ))
+    let s = t .before .before in
+    unused-bit _ _ _ _ _ _ _ _ (s .before .before .count-on .ensures .0) (s .before .before .before .if1 .left) (s .before .if2 .left) (s .if3 .left)
+    (rw (t .before .list-bytes .ensures) at (t .if4 .left)) (rw (unused (c .before)) at (c .if5 .taken))
 
 returns-6 : tie.Need-returns-6
-unfolding tableTests _when_else_
 returns-6 c =
     let t = c .before .before .before in
-    rw (← unused (c .before), ← t .before .before .before .before .count-on .ensures .0, ← t .before .list-bytes .ensures)
-    (simp (
-      ne-eqb _ _ (t .before .before .before .before .before .if1 .left),
-      ne-eqb _ _ (t .before .before .before .if2 .left),
-      le-ltb _ _ (t .before .before .if3 .left),
-      le-ltb _ _ (t .if4 .left),
-      le-ltb _ _ (c .if5 .left),
-    ))
+    let s = t .before .before in
+    no-fault _ _ _ _ _ _ _ _ (s .before .before .count-on .ensures .0) (s .before .before .before .if1 .left) (s .before .if2 .left) (s .if3 .left)
+    (rw (t .before .list-bytes .ensures) at (t .if4 .left)) (rw (unused (c .before)) at (c .if5 .left))
 
 pub judge-wire-spec : {M : Type 1} → statement M
 judge-wire-spec =
