@@ -99,9 +99,6 @@ epochs-set n points from ends seconds s =
     less k h = omega arith
 
 -- one less, as the code and as the definitions have it
-pub left-one-less : (n : ℕ) (weight d left : List ℕ) → Left (n - 1) weight d left → Left (pred n) weight d left
-left-one-less n weight d left l = subst (λ (k : ℕ). Left k weight d left) (sub-one n) l
-
 pub shared-one-less : (n : ℕ) (from till n₀ d₀ : List ℕ) (s e N D : ℕ) (n' d' : List ℕ) → Shared (n - 1) from till n₀ d₀ s e N D n' d'
     → Shared (pred n) from till n₀ d₀ s e N D n' d'
 shared-one-less n from till n₀ d₀ s e N D n' d' h = subst (λ (k : ℕ). Shared k from till n₀ d₀ s e N D n' d') (sub-one n) h
