@@ -62,6 +62,7 @@ module _ (f : ℕ → ℕ) where
   -- each digit of it is the bit that stands there
   pub digit_spelt : ((i : ℕ) → f i < 2) → (p w k : ℕ) → k < w → digit (spelt f p w) k ≡ f (p + w - 1 - k)
   unfolding spelt
+  digit_spelt bits p zero k h = elim h [ ]
   digit_spelt bits p (suc w) zero h =
       let e : p + suc w - 1 - 0 ≡ p + w = omega arith in
       rw e (omega (arith, bits (p + w), digit_first (2 * spelt f p w + f (p + w))))

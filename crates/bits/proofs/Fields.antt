@@ -27,6 +27,7 @@ length_bytes (suc n) p f = ap suc (length_bytes n (p + 8) f)
 -- byte k of them
 pub byte_at : (n p : ℕ) (f : ℕ → ℕ) (k : ℕ) → k < n → get_or (bytes_from n p f) k 0 ≡ spelt f (p + 8 * k) 8
 unfolding bytes_from
+byte_at zero p f k h = elim h [ ]
 byte_at (suc n) p f zero h = let e : p + 8 * 0 ≡ p = omega arith in rw e
 byte_at (suc n) p f (suc k) h = let e : p + 8 * suc k ≡ p + 8 + 8 * k = omega arith in rw e (byte_at n (p + 8) f k (omega arith))
 

@@ -23,10 +23,10 @@ pub fn unused_bits(bits: usize) -> usize
 
 // Reads count rows of fields of these widths from bit position at into the front of out. What stands behind them in out stays.
 pub fn read_rows(bytes: &[u8], at: usize, widths: &[usize], count: usize, out: &mut [u64])
-    requires at_most { AtMost 64 widths.now }
-    requires widths_bound { at + total (rows count widths.now) ≤ 8 * length bytes.now }
-    requires widths_bound_2 { at + total (rows count widths.now) < 2 ^ 64 }
-    requires widths_in_bounds { count * length widths.now ≤ length out.old }
+    requires narrow { AtMost 64 widths.now }
+    requires inside_bytes { at + total (rows count widths.now) ≤ 8 * length bytes.now }
+    requires position_fits { at + total (rows count widths.now) < 2 ^ 64 }
+    requires inside_out { count * length widths.now ≤ length out.old }
     ensures { out.new ≡ sets out.old 0 (fields_at bytes.now at (rows count widths.now)) }
 {
     let mut row = 0;
@@ -41,10 +41,10 @@ pub fn read_rows(bytes: &[u8], at: usize, widths: &[usize], count: usize, out: &
 
 // Reads one row from bit position at into out from index to on, and returns the position behind it.
 fn read_row(bytes: &[u8], at: usize, widths: &[usize], out: &mut [u64], to: usize) -> usize
-    requires at_most { AtMost 64 widths.now }
-    requires widths_bound { at + total widths.now ≤ 8 * length bytes.now }
-    requires widths_bound_2 { at + total widths.now < 2 ^ 64 }
-    requires widths_in_bounds { to + length widths.now ≤ length out.old }
+    requires narrow { AtMost 64 widths.now }
+    requires inside_bytes { at + total widths.now ≤ 8 * length bytes.now }
+    requires position_fits { at + total widths.now < 2 ^ 64 }
+    requires inside_out { to + length widths.now ≤ length out.old }
     ensures { (result ≡ at + total widths.now) × (out.new ≡ sets out.old to (fields_at bytes.now at widths.now)) }
 {
     let mut field = 0;
@@ -70,10 +70,10 @@ pub fn write_table(
     count: usize,
     values: &[u64],
 )
-    requires at_most { AtMost 64 lead.now × AtMost 64 row.now }
-    requires count_in_bounds { table_bytes lead.now row.now count ≤ length bytes.old }
-    requires count_bound { total (field_widths lead.now row.now count) < 2 ^ 32 }
-    requires lead_len { (length lead.now ≡ length head.now) × (count * length row.now ≤ length values.now) }
+    requires narrow { AtMost 64 lead.now × AtMost 64 row.now }
+    requires inside_bytes { table_bytes lead.now row.now count ≤ length bytes.old }
+    requires position_fits { total (field_widths lead.now row.now count) < 2 ^ 32 }
+    requires values_given { (length lead.now ≡ length head.now) × (count * length row.now ≤ length values.now) }
     ensures { bytes.new
         ≡ write_table
         bytes.old
@@ -90,10 +90,10 @@ pub fn write_table(
 // Writes count rows of fields of these widths at bit position at from the front of values, and returns the position behind them. Every other bit
 // stays.
 fn write_rows(bytes: &mut [u8], at: usize, widths: &[usize], count: usize, values: &[u64]) -> usize
-    requires at_most { AtMost 64 widths.now }
-    requires widths_bound { at + total (rows count widths.now) ≤ 8 * length bytes.old }
-    requires widths_bound_2 { at + total (rows count widths.now) < 2 ^ 64 }
-    requires widths_in_bounds { count * length widths.now ≤ length values.now }
+    requires narrow { AtMost 64 widths.now }
+    requires inside_bytes { at + total (rows count widths.now) ≤ 8 * length bytes.old }
+    requires position_fits { at + total (rows count widths.now) < 2 ^ 64 }
+    requires values_given { count * length widths.now ≤ length values.now }
     ensures { (result ≡ at + total (rows count widths.now))
         × (bytes.new ≡ put_fields bytes.old at (rows count widths.now) values.now) }
 {
@@ -110,10 +110,10 @@ fn write_rows(bytes: &mut [u8], at: usize, widths: &[usize], count: usize, value
 
 // Writes one row at bit position at from values from index from on, and returns the position behind it.
 fn write_row(bytes: &mut [u8], at: usize, widths: &[usize], values: &[u64], from: usize) -> usize
-    requires at_most { AtMost 64 widths.now }
-    requires widths_bound { at + total widths.now ≤ 8 * length bytes.old }
-    requires widths_bound_2 { at + total widths.now < 2 ^ 64 }
-    requires widths_in_bounds { from + length widths.now ≤ length values.now }
+    requires narrow { AtMost 64 widths.now }
+    requires inside_bytes { at + total widths.now ≤ 8 * length bytes.old }
+    requires position_fits { at + total widths.now < 2 ^ 64 }
+    requires values_given { from + length widths.now ≤ length values.now }
     ensures { (result ≡ at + total widths.now)
         × (bytes.new ≡ put_fields bytes.old at widths.now (drop from values.now)) }
 {

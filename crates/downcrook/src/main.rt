@@ -1,6 +1,8 @@
 // The program: reads one list from standard input and prints its plan, or the refusal. Every answer is the library's; the program adds only the text.
 // It reads the count, and then only the bytes that the count calls for, so that an open pipe that holds a whole list is answered at once. Bytes behind
 // the list are ignored. Assumes what the kit's io and libc assume.
+#![tactic(auto)]
+
 ghost use Rattle.std.specs.Prelude.{◌≤◌, length};
 
 use libc::{STDIN_FILENO, STDOUT_FILENO};

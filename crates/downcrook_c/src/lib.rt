@@ -1,5 +1,7 @@
 // Downcrook for C and Rust: every public operation as a function of a static library. An answer is a struct of plain numbers (src/shown.rt), so nothing is lent
 // but what the operation itself fills. include/downcrook.h declares the functions; specs/Shown.antt says which numbers an answer is.
+#![tactic(auto)]
+
 pub mod shown;
 
 ghost use Rattle.std.specs.Prelude.{◌≡◌, length};

@@ -1,5 +1,7 @@
 // Fractions: a rate as N over D in lowest terms, found by Euclid's rule, and exact products for comparing.
 // What is lowest is said by specs/Fraction.antt.
+#![tactic(auto)]
+
 ghost use Rattle.std.specs.Prelude.{◌≡◌, ◌*◌, ◌<◌, ◌^◌};
 ghost use Rattle.fractions.specs.Fraction.{gcd, lowest_n, lowest_d};
 

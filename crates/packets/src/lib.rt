@@ -1,4 +1,6 @@
 // Packets: the list of a day's waybills, in memory and on the wire.
+#![tactic(auto)]
+
 pub mod judge;
 pub mod list;
 pub mod refusal;

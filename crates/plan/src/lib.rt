@@ -1,3 +1,5 @@
 // Plan: the entries of a timetable in a lent frame.
+#![tactic(auto)]
+
 pub mod entries;
 pub mod frame;

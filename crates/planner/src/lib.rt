@@ -1,4 +1,6 @@
 // Planner: the whole call, from a list's bytes to a plan in a lent frame. What it promises is said by specs/Whole.antt.
+#![tactic(auto)]
+
 pub mod rows;
 
 ghost use Rattle.packets.specs.Records.{Accepted};

@@ -1,5 +1,7 @@
 // The policy: from packets in memory to the rate of every epoch, by Densest Interval First (document 01, "Epochs and rates").
 // What is promised is said by specs/Answer.antt, over the rounds of specs/Rounds.antt.
+#![tactic(auto)]
+
 pub mod densest;
 pub mod packet;
 pub mod points;

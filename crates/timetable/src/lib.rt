@@ -1,5 +1,7 @@
 // The timetables: from packets in memory to the exact and the radio timetable, by earliest deadline first (document 01, "The two timetables").
 // What is promised is said by specs/Answer.antt, over the entries of specs/Entries.antt and the costs of specs/Costs.antt.
+#![tactic(auto)]
+
 pub mod choice;
 pub mod epoch;
 pub mod made;
