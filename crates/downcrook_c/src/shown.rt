@@ -27,7 +27,7 @@ use timetable::TimetableAnswer;
 
 // A verdict on packets in memory.
 #[repr(C)]
-#[derive(Drop)]
+#[derive(Clone, Copy)]
 pub struct Judged {
     pub refusal: u64,
     pub place: u64,
@@ -47,7 +47,7 @@ impl Judged {
 
 // A list that is read: its packets, and the bytes that it takes.
 #[repr(C)]
-#[derive(Drop)]
+#[derive(Clone, Copy)]
 pub struct Listed {
     pub refusal: u64,
     pub place: u64,
@@ -71,7 +71,7 @@ impl Listed {
 
 // A list or a plan that is written: the bytes that it takes, a frame's head included.
 #[repr(C)]
-#[derive(Drop)]
+#[derive(Clone, Copy)]
 pub struct Written {
     pub refusal: u64,
     pub place: u64,
@@ -103,7 +103,7 @@ impl Written {
 
 // The rates of all epochs: how many epochs, and how many rounds.
 #[repr(C)]
-#[derive(Drop)]
+#[derive(Clone, Copy)]
 pub struct Rated {
     pub refusal: u64,
     pub place: u64,
@@ -127,7 +127,7 @@ impl Rated {
 
 // A plan that is made: its rounds, its entries and its radio cost (bytes per second, squared, times seconds).
 #[repr(C)]
-#[derive(Drop)]
+#[derive(Clone, Copy)]
 pub struct Planned {
     pub refusal: u64,
     pub place: u64,
@@ -165,7 +165,7 @@ impl Planned {
 
 // A plan that is read: its entries and its cost (bytes per second, squared, times seconds).
 #[repr(C)]
-#[derive(Drop)]
+#[derive(Clone, Copy)]
 pub struct Read {
     pub refusal: u64,
     pub place: u64,

@@ -6,7 +6,7 @@ ghost use Rattle.std.specs.Prelude.{◌≡◌, ◌*◌, ◌<◌, ◌^◌};
 ghost use Rattle.fractions.specs.Fraction.{gcd, lowest_n, lowest_d};
 
 // A rate N/D in bytes per second, in lowest terms.
-#[derive(Drop)]
+#[derive(Clone, Copy)]
 pub struct Rate {
     pub n: u64,
     pub d: u64,

@@ -16,7 +16,7 @@ pub const LAST_SECOND: u64 = 86_400;
 pub const RECORD_NUMBERS: usize = 3;
 
 // What a run of tests finds.
-#[derive(Drop)]
+#[derive(Clone, Copy)]
 pub enum Verdict {
     Passed,
     Refused(Refusal),

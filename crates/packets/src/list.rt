@@ -31,14 +31,14 @@ const RECORD_WIDTHS: [usize; 3] = [16, 17, 17];
 const RECORD_WIDTH: usize = 50;
 
 // What reading a list comes to: its packets and the bytes that it takes, or the refusal.
-#[derive(Drop)]
+#[derive(Clone, Copy)]
 pub enum ListAnswer {
     Packets { count: usize, bytes: usize },
     Refused(Refusal),
 }
 
 // What writing a list comes to: the bytes that it takes, or the refusal.
-#[derive(Drop)]
+#[derive(Clone, Copy)]
 pub enum WrittenAnswer {
     Written(usize),
     Refused(Refusal),

@@ -4,7 +4,7 @@ ghost use Rattle.std.specs.Prelude.{◌≡◌};
 ghost use Rattle.packets.specs.Outcome.{number_of, place_of};
 
 // Why a call refuses. A case with a place holds the index of the record or entry at fault.
-#[derive(Drop)]
+#[derive(Clone, Copy)]
 pub enum Refusal {
     // 1: the bytes, records or entries end before the count does, or there are no bytes to have a count in
     Short,

@@ -44,14 +44,14 @@ const ENTRY_WIDTH: usize = 140;
 const COST_END: u64 = 17_592_186_044_416;
 
 // What reading a plan comes to: its entries and its cost (bytes per second, squared, times seconds), or the refusal.
-#[derive(Drop)]
+#[derive(Clone, Copy)]
 pub enum ReadAnswer {
     Entries { count: usize, cost: u64 },
     Refused(Refusal),
 }
 
 // What writing a plan comes to: the bytes of the frame that it takes, the head included, or the refusal.
-#[derive(Drop)]
+#[derive(Clone, Copy)]
 pub enum FrameAnswer {
     Written(usize),
     Refused(Refusal),

@@ -15,7 +15,7 @@ use plan::frame::FrameAnswer;
 use timetable::made::made_of;
 
 // What planning a list comes to: the number of rounds, the number of entries and the radio cost (bytes per second, squared, times seconds), or the refusal.
-#[derive(Drop)]
+#[derive(Clone, Copy)]
 pub enum PlanAnswer {
     Planned {
         rounds: usize,

@@ -25,7 +25,7 @@ use packets::refusal::Refusal;
 pub const EPOCH_NUMBERS: usize = 3;
 
 // What the call comes to.
-#[derive(Drop)]
+#[derive(Clone, Copy)]
 pub enum RatesAnswer {
     // the number of epochs, each with three numbers in the lent room, and the number of rounds
     Rated { epochs: usize, rounds: usize },
@@ -33,7 +33,7 @@ pub enum RatesAnswer {
 }
 
 // What one epoch was given: nothing to send, or a rate (bytes per second).
-#[derive(Drop)]
+#[derive(Clone, Copy)]
 pub enum EpochRate {
     Silent,
     Carries(Rate),

@@ -12,14 +12,14 @@ use crate::spans::{Shares, give, left_weights, passed_by};
 use fractions::lowest;
 
 // What each packet and each epoch was given.
-#[derive(Drop)]
+#[derive(Clone, Copy)]
 pub struct Gifts {
     pub packets: Shares,
     pub epochs: Shares,
 }
 
 // The rates of a list: n event points (seconds), what each packet and each epoch was given, and the number of rounds.
-#[derive(Drop)]
+#[derive(Clone, Copy)]
 pub struct Rates {
     pub n: usize,
     pub points: [u64; 128],

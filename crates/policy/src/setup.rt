@@ -8,7 +8,7 @@ use crate::spans::{epoch_spans, packet_spans};
 
 // n points (seconds), the packets' windows (seconds) and bytes, the epochs' ends and seconds, and the place of each arrival among the points; then the row
 // with its bounds, and along it arrivals and deadlines (seconds) and the spot of each deadline among the points.
-#[derive(Drop)]
+#[derive(Clone, Copy)]
 pub struct Setup {
     pub n: usize,
     pub points: [u64; 128],

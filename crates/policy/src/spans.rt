@@ -10,7 +10,7 @@ use crate::packet::{air_size, arrival, deadline};
 use fractions::Rate;
 
 // Windows from `from` till `till` (seconds), and their weights (bytes or seconds).
-#[derive(Drop)]
+#[derive(Clone, Copy)]
 pub struct Spans {
     pub from: [u64; 128],
     pub till: [u64; 128],
@@ -18,7 +18,7 @@ pub struct Spans {
 }
 
 // The rates N/D (bytes per second) that were given; a D of 0 is no rate yet.
-#[derive(Drop)]
+#[derive(Clone, Copy)]
 pub struct Shares {
     pub n: [u64; 128],
     pub d: [u64; 128],

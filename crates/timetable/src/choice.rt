@@ -6,7 +6,7 @@ ghost use Rattle.timetable.specs.Steps.{found, next_found, sendable, sooner_foun
 use policy::packet::{arrival, deadline};
 
 // An epoch from `start` to `end` (seconds) that carries N/D (bytes per second).
-#[derive(Drop)]
+#[derive(Clone, Copy)]
 pub struct Epoch {
     pub start: u64,
     pub end: u64,
@@ -15,7 +15,7 @@ pub struct Epoch {
 }
 
 // A packet's number and its deadline (seconds); a number as large as the count is nobody.
-#[derive(Drop)]
+#[derive(Clone, Copy)]
 pub struct Found {
     pub number: usize,
     pub till: u64,

@@ -16,7 +16,7 @@ use packets::judge::{Verdict, judge_packets};
 use packets::refusal::Refusal;
 
 // What the call comes to.
-#[derive(Drop)]
+#[derive(Clone, Copy)]
 pub enum TimetableAnswer {
     // the number of rounds, the number of entries, each with seven numbers in the lent room, and the radio cost (bytes per second, squared, times seconds)
     Made {

@@ -16,7 +16,7 @@ use policy::rates::rates_of;
 pub const ENTRY_NUMBERS: usize = 7;
 
 // The timetables of a list whose entries stand in a lent array: how many entries, the rounds, and the radio cost (bytes per second, squared, times seconds).
-#[derive(Drop)]
+#[derive(Clone, Copy)]
 pub struct Timetable {
     pub count: usize,
     pub rounds: usize,
