@@ -1,16 +1,17 @@
 // The program: reads one list from standard input and prints its plan, or the refusal. Every answer is the library's; the program adds only the text.
 // It reads the count, and then only the bytes that the count calls for, so that an open pipe that holds a whole list is answered at once. Bytes behind
-// the list are ignored. Assumes what the kit's io and libc assume.
+// the list are ignored. Assumes what std assumes of the standard streams.
 #![tactic(auto)]
 
 ghost use Rattle.std.specs.Prelude.{◌≤◌, length};
 
-use libc::{STDIN_FILENO, STDOUT_FILENO};
 use packets::refusal::Refusal;
 use packets::{list, refusal};
 use plan::frame;
 use plan::frame::ReadAnswer;
 use planner::PlanAnswer;
+use std::io;
+use std::io::{Print, Read};
 
 // The bytes of a list of 64 packets, and of a frame that holds any plan (bytes).
 const LIST_ROOM: usize = 401;
@@ -20,9 +21,10 @@ const FRAME_ROOM: usize = 3357;
 // The numbers of 191 entries.
 const ENTRIES_ROOM: usize = 1146;
 
-fn main() {
+// A line that cannot be written ends the program with the error.
+fn main(rt: HostRuntime) -> io::Result<()> {
     let mut bytes = [0u8; LIST_ROOM];
-    let length = take_list(&mut bytes);
+    let length = take_list(&mut rt.stdin(), &mut bytes);
     let mut frame = [0u8; FRAME_ROOM];
     let answer = planner::plan_list(&bytes[..length], &mut frame);
     match answer {
@@ -31,22 +33,23 @@ fn main() {
             entries,
             cost,
         } => {
-            print_head(packets_of(bytes[0]), rounds, entries, cost);
-            print_entries(&frame);
+            let packets = packets_of(bytes[0]);
+            println!(rt; "{packets} {rounds} {entries} {cost}")?;
+            print_entries(&rt, &frame)
         }
-        PlanAnswer::Refused(refusal) => print_refusal(refusal),
+        PlanAnswer::Refused(refusal) => print_refusal(&rt, refusal),
     }
 }
 
 // Reads the count and what it calls for to the front of the bytes, and answers how many bytes came. An input that is closed or fails counts as an empty one.
-fn take_list(bytes: &mut [u8]) -> usize
+fn take_list<R: Read>(input: &mut R, bytes: &mut [u8]) -> usize
     ensures { result ≤ length bytes.new }
 {
     let room = bytes.len();
     if room == 0 {
         return 0;
     }
-    let first = io::read_full(STDIN_FILENO, &mut bytes[..1]);
+    let first = read_full(input, &mut bytes[..1]);
     if first == 0 {
         return 0;
     }
@@ -57,8 +60,22 @@ fn take_list(bytes: &mut [u8]) -> usize
     if room < length {
         return 1;
     }
-    let came = io::read_full(STDIN_FILENO, &mut bytes[1..length]);
+    let came = read_full(input, &mut bytes[1..length]);
     1 + least(came, length - 1)
+}
+
+// Reads until the bytes are full, the input ends or a read fails, and answers how many bytes came (bytes).
+fn read_full<R: Read>(input: &mut R, bytes: &mut [u8]) -> usize
+    ensures { result ≤ length bytes.new }
+{
+    let mut done = 0;
+    while done < bytes.len() {
+        match input.read(&mut bytes[done..]) {
+            Ok(came) if 0 < came => done += came,
+            _ => break,
+        }
+    }
+    done
 }
 
 // The bytes that a count calls for (bytes): those of the list, or the count's own byte where the list is refused for it.
@@ -82,53 +99,39 @@ fn least(a: usize, b: usize) -> usize
     if a < b { a } else { b }
 }
 
-// The line of packets, rounds, entries and cost (bytes per second, squared, times seconds).
-fn print_head(packets: u64, rounds: usize, entries: usize, cost: u64) {
-    print_number(packets, b" ");
-    print_number(rounds as u64, b" ");
-    print_number(entries as u64, b" ");
-    print_number(cost, b"\n");
-}
-
 // A line for each entry of the plan in the frame.
-fn print_entries(frame: &[u8]) {
+fn print_entries<P: Print>(to: &P, frame: &[u8]) -> io::Result<()> {
     let mut entries = [0u64; ENTRIES_ROOM];
     let answer = frame::read_plan(frame, &mut entries);
     if let ReadAnswer::Entries { count, cost: _ } = answer {
-        let mut i = 0;
-        while i < count {
-            print_entry(&entries, i);
-            i += 1;
+        for i in 0..count {
+            print_entry(to, &entries, i)?;
         }
     }
+    Ok(())
 }
 
 // The line of entry i: packet, epoch start (seconds), R (bytes per second), D, from, to (units of 1/D byte).
-fn print_entry(entries: &[u64], i: usize) {
+fn print_entry<P: Print>(to: &P, entries: &[u64], i: usize) -> io::Result<()> {
     if 190 < i {
-        return;
+        return Ok(());
     }
     let at = 6 * i;
     if entries.len() < at + 6 {
-        return;
+        return Ok(());
     }
-    print_number(entries[at], b" ");
-    print_number(entries[at + 1], b" ");
-    print_number(entries[at + 2], b" ");
-    print_number(entries[at + 3], b" ");
-    print_number(entries[at + 4], b" ");
-    print_number(entries[at + 5], b"\n");
+    let packet = entries[at];
+    let start = entries[at + 1];
+    let r = entries[at + 2];
+    let d = entries[at + 3];
+    let from = entries[at + 4];
+    let till = entries[at + 5];
+    println!(to; "{packet} {start} {r} {d} {from} {till}")
 }
 
 // The line of a refusal.
-fn print_refusal(refusal: Refusal) {
-    io::write_all(STDOUT_FILENO, b"refused ");
-    print_number(refusal::number(refusal), b" ");
-    print_number(refusal::place(refusal) as u64, b"\n");
-}
-
-// A number in decimal digits, and what stands behind it.
-fn print_number(n: u64, behind: &[u8]) {
-    io::print_decimal(STDOUT_FILENO, n);
-    io::write_all(STDOUT_FILENO, behind);
+fn print_refusal<P: Print>(to: &P, refusal: Refusal) -> io::Result<()> {
+    let number = refusal::number(refusal);
+    let place = refusal::place(refusal);
+    println!(to; "refused {number} {place}")
 }
