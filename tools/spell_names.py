@@ -22,7 +22,14 @@ OTHER = {
     "units_in": "units_in_lem",
     "in-units": "in_units_lem",
     "at_first": "at_first_lem",
+    "epochRate": "rate_of_epoch",
+    "packetRate": "rate_of_packet",
 }
+# names that a signature or a local definition binds
+BOUND = """
+dayWith madeNumbers made-entries epoch-n epoch-d packet-n packet-d epoch-n' epoch-d' packet-n' packet-d' frame-answer list-answer written-answer
+small-a small-into small-from small-out small-frame long-a long-b no-load no-packet no-epoch not-above zero-count q-some e-is f-is r-is u-is y-is value-is
+""".split()
 # fields of two records that one file speaks of: each is read by its record
 FIELDS = {"r_fits", "r_some", "d_some", "d_most", "n_most"}
 # fields and lists that are named by a letter of the documents
@@ -68,7 +75,7 @@ def spelt(name):
 
 def own():
     """The names that files of specs/ and proofs/ declare, their fields, and the names that a `let` binds."""
-    found = set()
+    found = set(BOUND) | set(OTHER)
     for path in files(".antt"):
         for line in read(path).splitlines():
             if line.startswith(("use ", "mod ", "pub mod ", "--", "unfolding ")) or GOAL.search(line):

@@ -76,8 +76,8 @@ bytes_same (suc n) p f g same =
 
 -- rows of bytes of one length with the same bits are the same
 pub same_bits : (a b : List ℕ) → Bytes a → Bytes b → length a ≡ length b → ((i : ℕ) → i < 8 * length a → bit a i ≡ bit b i) → a ≡ b
-same_bits a b small-a small_b long same =
-    sym (bytes_bits a small-a)
+same_bits a b small_a small_b long same =
+    sym (bytes_bits a small_a)
     ∙ bytes_same (length a) 0 (bit a) (bit b) (λ i lo hi. same i (omega arith))
     ∙ ap (λ (n : ℕ). bytes_from n 0 (bit b)) long
     ∙ bytes_bits b small_b

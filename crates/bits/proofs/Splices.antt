@@ -33,11 +33,11 @@ module _ (a b : List ℕ) (n : ℕ) (long : n ≤ length a) where
   splice_high i h = rw (byte_high (i / 8) (omega arith))
 
   pub splice_bytes : Bytes a → Bytes b → Bytes (take n a ++ drop n b)
-  splice_bytes small-a small_b k = go (dec_le n k)
+  splice_bytes small_a small_b k = go (dec_le n k)
     where
       go : Dec (n ≤ k) → get_or (take n a ++ drop n b) k 0 < 256
       go (yes high) = rw (byte_high k high) (small_b k)
-      go (no low) = rw (byte_low k (omega arith)) (small-a k)
+      go (no low) = rw (byte_low k (omega arith)) (small_a k)
 
   pub length_splice : n ≤ length b → length (take n a ++ drop n b) ≡ length b
   length_splice within = omega (arith, length-append (take n a) (drop n b), length-take-le n a long, length-drop n b)
@@ -45,7 +45,7 @@ module _ (a b : List ℕ) (n : ℕ) (long : n ≤ length a) where
 -- rows of one length that agree from byte n on have the same back
 pub same_back : (a b : List ℕ) (n : ℕ) → Bytes a → Bytes b → length a ≡ length b → n ≤ length a
     → ((i : ℕ) → 8 * n ≤ i → i < 8 * length a → bit a i ≡ bit b i) → drop n a ≡ drop n b
-same_back a b n small-a small_b same_length within same =
+same_back a b n small_a small_b same_length within same =
     ap (drop n) whole ∙ drop_at (take n a) (drop n b) n (length-take-le n a within)
   where
     go : (i : ℕ) → i < 8 * length a → Dec (8 * n ≤ i) → bit a i ≡ bit (take n a ++ drop n b) i
@@ -54,7 +54,7 @@ same_back a b n small-a small_b same_length within same =
 
     whole : a ≡ take n a ++ drop n b
     whole =
-        same_bits a (take n a ++ drop n b) small-a (splice_bytes a b n within small-a small_b)
+        same_bits a (take n a ++ drop n b) small_a (splice_bytes a b n within small_a small_b)
         (same_length ∙ sym (length_splice a b n within (omega arith)))
         (λ i h. go i h (dec_le (8 * n) i))
 

@@ -206,8 +206,8 @@ module _ (head row : List ℕ) (n : ℕ) where
   pub read_write : (from into : List ℕ) → Bytes from → Bytes into → table_bytes head row n ≤ length from → table_bytes head row n ≤ length into
       → unused_at from head row n ≡ 0
       → write_table into head row n (read_table from head row n) ≡ take (table_bytes head row n) from ++ drop (table_bytes head row n) into
-  read_write from into small-from small-into long room unused =
-      same_bits written spliced (write_bytes into _ small-into) (splice_bytes from into used long small-from small-into)
+  read_write from into small_from small_into long room unused =
+      same_bits written spliced (write_bytes into _ small_into) (splice_bytes from into used long small_from small_into)
       (length_write into _ ∙ sym (length_splice from into used long room))
       (λ i h. go i (rw length_write at h) (dec_le (8 * used) i))
     where

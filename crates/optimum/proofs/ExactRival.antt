@@ -28,7 +28,7 @@ use Rattle.optimum.specs.Optimum.{all_units, bytes_in, units_at}
 use Rattle.optimum.proofs.Totals.{total_in}
 use Rattle.optimum.proofs.Slots.{rate_at, rate_at_lem}
 use Rattle.optimum.proofs.CommonUnits.{cost_in}
-use Rattle.optimum.proofs.Rates.{Cut, L, l_some, epochRate, exact_by_slots, no_rival_below, packet_common}
+use Rattle.optimum.proofs.Rates.{Cut, L, l_some, rate_of_epoch, exact_by_slots, no_rival_below, packet_common}
 use Rattle.optimum.proofs.Stretches.{after_none, all_seconds, before_none, over, over_eq, over_le, over_sum, second_bound}
 
 -- ## Bytes of entries over a common denominator
@@ -207,21 +207,21 @@ module _ (day : Day) (rates : Progress) (r : Rated day rates) (entries : List En
             ))
 
     -- in a second it sends no more than the rate of the epoch
-    second_most : (t : ℕ) → sum day.packets.count (λ i. over (part l (units_at t) i) entries) ≤ rate_at day.epochs 1 (epochRate day rates r) t
+    second_most : (t : ℕ) → sum day.packets.count (λ i. over (part l (units_at t) i) entries) ≤ rate_at day.epochs 1 (rate_of_epoch day rates r) t
     second_most t =
         le_trans
         (subst (λ (x : ℕ). x ≤ over (λ e. units_at t e * (l / e.D)) entries) (sym (over_sum day.packets.count (λ i. part l (units_at t) i) entries))
         (over_le (λ e. sum day.packets.count (λ i. part l (units_at t) i e)) (λ e. units_at t e * (l / e.D)) entries
         (each_map (λ e g. one_packet day.packets.count e.packet (units_at t e * (l / e.D))) entries timetable.right)))
-        (second_bound day rates r l t (rate_at day.epochs 1 (epochRate day rates r) t) entries timetable.right timetable.ordered most)
+        (second_bound day rates r l t (rate_at day.epochs 1 (rate_of_epoch day rates r) t) entries timetable.right timetable.ordered most)
       where
         most : (k n d : ℕ) → k < day.epochs.count → rates.epoch k ≡ rate n d → day.epochs.from k ≤ t → t < day.epochs.till k
-            → n * (l / d) ≤ rate_at day.epochs 1 (epochRate day rates r) t
+            → n * (l / d) ≤ rate_at day.epochs 1 (rate_of_epoch day rates r) t
         most k n d h p a b =
-            subst (λ (x : ℕ). x ≤ rate_at day.epochs 1 (epochRate day rates r) t) rate_is
-            (rate_at_lem day.epochs 1 (epochRate day rates r) t k h (omega arith) (omega arith))
+            subst (λ (x : ℕ). x ≤ rate_at day.epochs 1 (rate_of_epoch day rates r) t) rate_is
+            (rate_at_lem day.epochs 1 (rate_of_epoch day rates r) t k h (omega arith) (omega arith))
           where
-            rate_is : epochRate day rates r k ≡ n * (l / d)
+            rate_is : rate_of_epoch day rates r k ≡ n * (l / d)
             rate_is = ap (price_of (in_units l)) p ∙ (unfold price_of in_units in refl)
 
     -- as a rival it costs the exact cost
@@ -241,5 +241,5 @@ module _ (day : Day) (rates : Progress) (r : Rated day rates) (entries : List En
         sends t = sum day.packets.count (λ i. over (part l (units_at t) i) entries)
 
         squares : sum (1 * seconds) (λ t. sends t * sends t)
-            ≤ sum (1 * seconds) (λ t. rate_at day.epochs 1 (epochRate day rates r) t * rate_at day.epochs 1 (epochRate day rates r) t)
+            ≤ sum (1 * seconds) (λ t. rate_at day.epochs 1 (rate_of_epoch day rates r) t * rate_at day.epochs 1 (rate_of_epoch day rates r) t)
         squares = sum_le (1 * seconds) _ _ (λ t h. mul-le-mul (second_most t) (second_most t))

@@ -23,7 +23,7 @@ use Rattle.optimum.proofs.Sums.{sum_exchange}
 use Rattle.optimum.proofs.Squares.{twice_product, same_squares}
 
 module _ (S q n : ℕ) (w p rate : ℕ → ℕ) (y : ℕ → ℕ → ℕ) (L M E : ℕ)
-    (q-some : 0 < q)
+    (q_some : 0 < q)
     (by_slots : sum S (λ t. rate t * rate t) ≡ q * E)
     (by_packets : sum n (λ i. w i * p i) * L ≡ E)
     (whole : (i : ℕ) → i < n → sum S (λ t. y t i) ≡ w i * M)
@@ -94,7 +94,7 @@ module _ (S q n : ℕ) (w p rate : ℕ → ℕ) (y : ℕ → ℕ → ℕ) (L M E
     lower_bound =
         le_of_mul-le-mul_left {k = q}
         (omega (arith, products_some, squares, sum_le S (λ t. 2 * (a t * b t)) (λ t. a t * a t + b t * b t) (λ t h. twice_product (a t) (b t))))
-        q-some
+        q_some
 
     -- one that costs as little has the same rate in every slot
     pub same_rates : q * sum S (λ t. sends t * sends t) * (L * L) ≡ E * (M * M) → (t : ℕ) → t < S → q * L * sends t ≡ M * rate t

@@ -69,22 +69,22 @@ module _ (day : Day) (rates : Progress) (r : Rated day rates) where
   packet_common i n d h p = let c = carrier i n d h p in common day rates c.0 n d c.1 c.2
 
   -- the rates of packets and epochs, in units of 1/L byte per second
-  abbrev pub packetRate : ℕ → ℕ
-  packetRate i = price_of (in_units L) (rates.packet i)
+  abbrev pub rate_of_packet : ℕ → ℕ
+  rate_of_packet i = price_of (in_units L) (rates.packet i)
 
-  abbrev pub epochRate : ℕ → ℕ
-  epochRate k = price_of (in_units L) (rates.epoch k)
+  abbrev pub rate_of_epoch : ℕ → ℕ
+  rate_of_epoch k = price_of (in_units L) (rates.epoch k)
 
   -- the exact cost by packets
-  pub by_packets : sum day.packets.count (λ i. day.packets.weight i * packetRate i) * L ≡ exact_cost_n day rates
+  pub by_packets : sum day.packets.count (λ i. day.packets.weight i * rate_of_packet i) * L ≡ exact_cost_n day rates
   unfolding exact_cost_n exact_cost_in priced
   by_packets = r.facts.priced_alike L (in_units L) packet_common
 
   -- the exact cost by epochs
-  by_epochs : sum day.epochs.count (λ k. day.epochs.weight k * (epochRate k * epochRate k)) ≡ exact_cost_n day rates
+  by_epochs : sum day.epochs.count (λ k. day.epochs.weight k * (rate_of_epoch k * rate_of_epoch k)) ≡ exact_cost_n day rates
   unfolding exact_cost_n exact_cost_in priced
   by_epochs =
-      sum_eq day.epochs.count (λ k. day.epochs.weight k * (epochRate k * epochRate k))
+      sum_eq day.epochs.count (λ k. day.epochs.weight k * (rate_of_epoch k * rate_of_epoch k))
       (λ k. day.epochs.weight k * price_of (λ n d. in_units L n d * in_units L n d) (rates.epoch k))
       (λ k h. ap (λ (x : ℕ). day.epochs.weight k * x) (square (rates.epoch k)))
     where
@@ -94,13 +94,13 @@ module _ (day : Day) (rates : Progress) (r : Rated day rates) where
 
   -- not-slower over the common denominator
   not_slower : (i k : ℕ) → i < day.packets.count → k < day.epochs.count → day.packets.from i ≤ day.epochs.from k → day.epochs.till k ≤ day.packets.till i
-      → packetRate i ≤ epochRate k
+      → rate_of_packet i ≤ rate_of_epoch k
   not_slower i k h g a b = go (assigned (rates.packet i) (r.finished i h))
     where
-      go : (n : ℕ) × ((d : ℕ) × (rates.packet i ≡ rate n d)) → packetRate i ≤ epochRate k
+      go : (n : ℕ) × ((d : ℕ) × (rates.packet i ≡ rate n d)) → rate_of_packet i ≤ rate_of_epoch k
       go (n, (d, p)) = with_rate (r.facts.not_slower i k n d h g p a b)
         where
-          with_rate : AtLeast (rates.epoch k) n d → packetRate i ≤ epochRate k
+          with_rate : AtLeast (rates.epoch k) n d → rate_of_packet i ≤ rate_of_epoch k
           with_rate s =
               subst₂ (λ (x y : Given). price_of (in_units L) x ≤ price_of (in_units L) y) (sym p) (sym s.given)
               (unfold price_of in_units in
@@ -114,7 +114,7 @@ module _ (day : Day) (rates : Progress) (r : Rated day rates) where
               (mul-pos (r.facts.packet_rate i n d h p).d_some (r.facts.epoch_rate k s.rate_n s.rate_d g s.given).d_some))
 
   module _ (seconds : ℕ) (cut : Cut seconds day) where
-    conditions : Conditions seconds day.packets day.epochs L packetRate epochRate
+    conditions : Conditions seconds day.packets day.epochs L rate_of_packet rate_of_epoch
     conditions =
         record {
           rising = r.rising;
@@ -143,9 +143,9 @@ module _ (day : Day) (rates : Progress) (r : Rated day rates) where
 
     -- the exact cost by slots
     pub exact_by_slots : (q : ℕ)
-        → sum (q * seconds) (λ t. rate_at day.epochs q epochRate t * rate_at day.epochs q epochRate t) ≡ q * exact_cost_n day rates
+        → sum (q * seconds) (λ t. rate_at day.epochs q rate_of_epoch t * rate_at day.epochs q rate_of_epoch t) ≡ q * exact_cost_n day rates
     exact_by_slots q =
-        by_slots seconds day.packets day.epochs L packetRate epochRate conditions q ∙ ap (λ (x : ℕ). q * x) by_epochs
+        by_slots seconds day.packets day.epochs L rate_of_packet rate_of_epoch conditions q ∙ ap (λ (x : ℕ). q * x) by_epochs
 
     -- no rival costs less
     pub no_rival_below : (slots : ℕ) (bytes : ℕ → ℕ → Fraction) → Rival seconds day.packets slots bytes
@@ -153,14 +153,14 @@ module _ (day : Day) (rates : Progress) (r : Rated day rates) where
     unfolding exact_cost_d
     no_rival_below slots bytes rival =
         subst (λ (x : ℕ). NotAbove (record { over = x; under = L * L }) (rival_cost seconds day.packets slots bytes)) by_epochs
-        (no_cheaper seconds day.packets day.epochs L packetRate epochRate conditions slots bytes rival)
+        (no_cheaper seconds day.packets day.epochs L rate_of_packet rate_of_epoch conditions slots bytes rival)
 
     -- one that costs as little has the rate of the epoch in every slot
     pub same_rival_rates : (slots : ℕ) (bytes : ℕ → ℕ → Fraction) → Rival seconds day.packets slots bytes
         → Equal (rival_cost seconds day.packets slots bytes) (record { over = exact_cost_n day rates; under = exact_cost_d day rates })
         → (t : ℕ) → t < slots * seconds
-        → Equal (slot_rate day.packets slots bytes t) (record { over = rate_at day.epochs slots epochRate t; under = L })
+        → Equal (slot_rate day.packets slots bytes t) (record { over = rate_at day.epochs slots rate_of_epoch t; under = L })
     unfolding exact_cost_d
     same_rival_rates slots bytes rival e =
-        same_slot_rates seconds day.packets day.epochs L packetRate epochRate conditions slots bytes rival
+        same_slot_rates seconds day.packets day.epochs L rate_of_packet rate_of_epoch conditions slots bytes rival
         (subst (λ (x : ℕ). Equal (rival_cost seconds day.packets slots bytes) (record { over = x; under = L * L })) (sym by_epochs) e)

@@ -16,7 +16,7 @@ use Rattle.timetable.proofs.NeverLate.{Rated}
 use Rattle.timetable.proofs.Settings.{setting_close}
 use Rattle.optimum.specs.Rival.{Fraction, whole, plus, NotAbove, Below}
 use Rattle.optimum.specs.Optimum.{rounding_price}
-use Rattle.optimum.proofs.Rates.{L, l_some, by_packets, packet_common, packetRate}
+use Rattle.optimum.proofs.Rates.{L, l_some, by_packets, packet_common, rate_of_packet}
 
 -- a setting is less than the price above the rate
 setting_priced : (n d : ℕ) → 0 < d → setting n d * d < n + rounding_price * d
@@ -49,12 +49,12 @@ module _ (day : Day) (rates : Progress) (r : Rated day rates) (some : 0 < day.pa
 
   one : (i : ℕ) → i < day.packets.count
       → day.packets.weight i * price_of setting (rates.packet i) * L day rates r + day.packets.weight i
-      ≤ day.packets.weight i * packetRate day rates r i + day.packets.weight i * (rounding_price * L day rates r)
+      ≤ day.packets.weight i * rate_of_packet day rates r i + day.packets.weight i * (rounding_price * L day rates r)
   one i h = go (assigned (rates.packet i) (r.finished i h))
     where
       go : (n : ℕ) × ((d : ℕ) × (rates.packet i ≡ rate n d))
           → day.packets.weight i * price_of setting (rates.packet i) * L day rates r + day.packets.weight i
-          ≤ day.packets.weight i * packetRate day rates r i + day.packets.weight i * (rounding_price * L day rates r)
+          ≤ day.packets.weight i * rate_of_packet day rates r i + day.packets.weight i * (rounding_price * L day rates r)
       go (n, (d, p)) =
           subst
           (λ (x : Given). day.packets.weight i * price_of setting x * L day rates r + day.packets.weight i
@@ -79,15 +79,15 @@ module _ (day : Day) (rates : Progress) (r : Rated day rates) (some : 0 < day.pa
       )
     where
       all : sum day.packets.count (λ i. day.packets.weight i * price_of setting (rates.packet i)) * L day rates r + bytes
-          ≤ sum day.packets.count (λ i. day.packets.weight i * packetRate day rates r i) + bytes * (rounding_price * L day rates r)
+          ≤ sum day.packets.count (λ i. day.packets.weight i * rate_of_packet day rates r i) + bytes * (rounding_price * L day rates r)
       all =
           omega (
             arith,
             sum_le day.packets.count
                 (λ i. day.packets.weight i * price_of setting (rates.packet i) * L day rates r + day.packets.weight i)
-                (λ i. day.packets.weight i * packetRate day rates r i + day.packets.weight i * (rounding_price * L day rates r)) one,
+                (λ i. day.packets.weight i * rate_of_packet day rates r i + day.packets.weight i * (rounding_price * L day rates r)) one,
             sum_add day.packets.count (λ i. day.packets.weight i * price_of setting (rates.packet i) * L day rates r) day.packets.weight,
-            sum_add day.packets.count (λ i. day.packets.weight i * packetRate day rates r i) (λ i. day.packets.weight i * (rounding_price * L day rates r)),
+            sum_add day.packets.count (λ i. day.packets.weight i * rate_of_packet day rates r i) (λ i. day.packets.weight i * (rounding_price * L day rates r)),
             sum_scale day.packets.count (λ i. day.packets.weight i * price_of setting (rates.packet i)) (L day rates r),
             sum_scale day.packets.count day.packets.weight (rounding_price * L day rates r),
           )

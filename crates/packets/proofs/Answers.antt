@@ -12,9 +12,9 @@ use Rattle.packets.specs.declared.refusal.Refusal.TheVariants.{Short, NoPackets,
 use Rattle.packets.specs.declared.judge.Verdict.{Verdict}
 use Rattle.packets.specs.declared.judge.Verdict.TheVariants as verdict
 use Rattle.packets.specs.declared.list.ListAnswer.{ListAnswer}
-use Rattle.packets.specs.declared.list.ListAnswer.TheVariants as list-answer
+use Rattle.packets.specs.declared.list.ListAnswer.TheVariants as list_answer
 use Rattle.packets.specs.declared.list.WrittenAnswer.{WrittenAnswer}
-use Rattle.packets.specs.declared.list.WrittenAnswer.TheVariants as written-answer
+use Rattle.packets.specs.declared.list.WrittenAnswer.TheVariants as written_answer
 use Rattle.packets.specs.Outcome.{Outcome, gives, refuses, refusal_of, verdict_of, list_answer_of, written_answer_of}
 use Rattle.packets.specs.Records.{memory_tests}
 use Rattle.packets.specs.List.{read_outcome, records_after, rest_after, bytes_after, ListJudged, ListRead, ListWritten}
@@ -77,16 +77,16 @@ verdict_one (verdict.Refused r) verdict.Passed e = refusal_gives r [] e
 verdict_one (verdict.Refused r) (verdict.Refused s) e = ap verdict.Refused (refusal_one r s e)
 
 pub list_answer_one : (a b : ListAnswer) → list_answer_of a ≡ list_answer_of b → a ≡ b
-list_answer_one (list-answer.Packets n u) (list-answer.Packets m w) e = let f : n ≡ m = cc in let g : u ≡ w = cc in cc
-list_answer_one (list-answer.Packets n u) (list-answer.Refused s) e = refusal_gives s _ (sym e)
-list_answer_one (list-answer.Refused r) (list-answer.Packets m w) e = refusal_gives r _ e
-list_answer_one (list-answer.Refused r) (list-answer.Refused s) e = ap list-answer.Refused (refusal_one r s e)
+list_answer_one (list_answer.Packets n u) (list_answer.Packets m w) e = let f : n ≡ m = cc in let g : u ≡ w = cc in cc
+list_answer_one (list_answer.Packets n u) (list_answer.Refused s) e = refusal_gives s _ (sym e)
+list_answer_one (list_answer.Refused r) (list_answer.Packets m w) e = refusal_gives r _ e
+list_answer_one (list_answer.Refused r) (list_answer.Refused s) e = ap list_answer.Refused (refusal_one r s e)
 
 pub written_answer_one : (a b : WrittenAnswer) → written_answer_of a ≡ written_answer_of b → a ≡ b
-written_answer_one (written-answer.Written n) (written-answer.Written m) e = let f : n ≡ m = cc in cc
-written_answer_one (written-answer.Written n) (written-answer.Refused s) e = refusal_gives s _ (sym e)
-written_answer_one (written-answer.Refused r) (written-answer.Written m) e = refusal_gives r _ e
-written_answer_one (written-answer.Refused r) (written-answer.Refused s) e = ap written-answer.Refused (refusal_one r s e)
+written_answer_one (written_answer.Written n) (written_answer.Written m) e = let f : n ≡ m = cc in cc
+written_answer_one (written_answer.Written n) (written_answer.Refused s) e = refusal_gives s _ (sym e)
+written_answer_one (written_answer.Refused r) (written_answer.Written m) e = refusal_gives r _ e
+written_answer_one (written_answer.Refused r) (written_answer.Refused s) e = ap written_answer.Refused (refusal_one r s e)
 
 -- ---- promises: each admits one answer, one part handed back and one content of each lent buffer
 
@@ -111,6 +111,6 @@ pub list_read_undone : (bytes lent rest after : List ℕ) (refusal : Refusal) �
 unfolding rest_after records_after
 list_read_undone bytes lent rest after refusal e p = (p.0 ∙ refused_leaves refusal _ bytes e, p.1 ∙ refused_leaves refusal _ lent e)
 
-pub list_written_undone : (count : ℕ) (records lent after : List ℕ) (refusal : Refusal) → ListWritten count records lent (written-answer.Refused refusal) after → after ≡ lent
+pub list_written_undone : (count : ℕ) (records lent after : List ℕ) (refusal : Refusal) → ListWritten count records lent (written_answer.Refused refusal) after → after ≡ lent
 unfolding bytes_after
 list_written_undone count records lent after refusal p = p.1 ∙ refused_leaves refusal _ lent p.0

@@ -129,7 +129,7 @@ in_order_each test (suc n) i values h k lo hi =
   where
     go : (own : List ℕ) → test i ≡ gives own → (suc i ≤ k → k < suc i + n → (more : List ℕ) × (test k ≡ gives more)) → Dec (suc i ≤ k) → (more : List ℕ) × (test k ≡ gives more)
     go own one later (yes above) = later above (omega arith)
-    go own one later (no not-above) = let e : k ≡ i = omega arith in (own, rw e one)
+    go own one later (no not_above) = let e : k ≡ i = omega arith in (own, rw e one)
 
 -- and none has values of its own
 pub in_order_none : (test : ℕ → Outcome) (n i : ℕ) {values : List ℕ} → in_order test n i ≡ gives values → in_order test n i ≡ gives []

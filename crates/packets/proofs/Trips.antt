@@ -90,7 +90,7 @@ module _ (count : ℕ) (records lent : List ℕ) (accepted : Accepted count reco
 -- ---- read and written again
 
 -- A list that is read into lent room, and what the room then holds written into any bytes that have room.
-module _ (bytes room out : List ℕ) (small : Bytes bytes) (small-out : Bytes out) (values : List ℕ)
+module _ (bytes room out : List ℕ) (small : Bytes bytes) (small_out : Bytes out) (values : List ℕ)
     (gave : read_outcome bytes (length room) ≡ gives values) (long : list_bytes (count_on bytes) ≤ length out) where
   read : Readable bytes (length room) values
   read = read_readable bytes (length room) values gave
@@ -134,7 +134,7 @@ module _ (bytes room out : List ℕ) (small : Bytes bytes) (small-out : Bytes ou
 
       again : write_table out (count_width ∷ []) record_widths (count_on bytes) (read_table bytes (count_width ∷ []) record_widths (count_on bytes))
           ≡ take (list_bytes (count_on bytes)) bytes ++ drop (list_bytes (count_on bytes)) out
-      again = read_write (count_width ∷ []) record_widths (count_on bytes) bytes out small small-out read.whole.held long read.whole.clear
+      again = read_write (count_width ∷ []) record_widths (count_on bytes) bytes out small small_out read.whole.held long read.whole.clear
 
 -- ---- what stands behind a list
 
@@ -142,12 +142,12 @@ module _ (bytes room out : List ℕ) (small : Bytes bytes) (small-out : Bytes ou
 pub nothing_behind : (a b : List ℕ) (room : ℕ) → list_bytes (count_on a) ≤ length a → list_bytes (count_on a) ≤ length b
     → take (list_bytes (count_on a)) a ≡ take (list_bytes (count_on a)) b
     → (read_outcome a room ≡ read_outcome b room) × (records_on a ≡ records_on b)
-nothing_behind a b room long-a long-b front = (outcome, records)
+nothing_behind a b room long_a long_b front = (outcome, records)
   where
     same : (count_on b ≡ count_on a)
         × (read_table a (count_width ∷ []) record_widths (count_on a) ≡ read_table b (count_width ∷ []) record_widths (count_on a))
         × (wire_tests a ≡ wire_tests b)
-    same = front_same _ _ _ _ _ _ (omega arith) a b long-a long-b front
+    same = front_same _ _ _ _ _ _ (omega arith) a b long_a long_b front
 
     records : records_on a ≡ records_on b
     records = (unfold records_on in (rw same.0 (ap (drop 1) (sym (table_list a (count_on a)) ∙ same.1 ∙ table_list b (count_on a)))))

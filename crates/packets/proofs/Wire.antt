@@ -77,13 +77,13 @@ module _ (w : ℕ) (more row : List ℕ) (most none many : ℕ) where
       × (read_table a (w ∷ more) row (count_at a (w ∷ more)) ≡ read_table b (w ∷ more) row (count_at a (w ∷ more)))
       × (table_tests (w ∷ more) row most none many a ≡ table_tests (w ∷ more) row most none many b)
   unfolding table_tests ◌when◌else◌
-  front_same wide a b long-a long-b front =
+  front_same wide a b long_a long_b front =
       let same = read_front (w ∷ more) row (count_at a (w ∷ more)) a b front in
       let n : count_at b (w ∷ more) ≡ count_at a (w ∷ more) = (unfold read_table field_widths fields_at in (cc same.0)) in
       let used = table_some wide (count_at a (w ∷ more)) in
       let z : length a ≡ 0 → ⊥ = λ (e : length a ≡ 0). omega arith in
       let y : length b ≡ 0 → ⊥ = λ (e : length b ≡ 0). omega arith in
-      (n, same.0, rw (n, same.1) (simp (ne_eqb _ _ z, ne_eqb _ _ y, le-ltb _ _ long-a, le-ltb _ _ long-b)))
+      (n, same.0, rw (n, same.1) (simp (ne_eqb _ _ z, ne_eqb _ _ y, le-ltb _ _ long_a, le-ltb _ _ long_b)))
 
 -- ---- the tests one by one, as code makes them
 
@@ -91,7 +91,7 @@ module _ (w : ℕ) (more row : List ℕ) (most none many : ℕ) where
 module _ (w : ℕ) (more row : List ℕ) (most none many : ℕ) (bytes : List ℕ) (count : ℕ) (n : count ≡ count_at bytes (w ∷ more)) (any : length bytes ≡ 0 → ⊥) where
   pub no_rows : count ≡ 0 → refuses none 0 ≡ table_tests (w ∷ more) row most none many bytes
   unfolding table_tests ◌when◌else◌
-  no_rows zero-count = rw (← n) (simp (ne_eqb _ _ any, eq-eqb _ _ zero-count))
+  no_rows zero_count = rw (← n) (simp (ne_eqb _ _ any, eq-eqb _ _ zero_count))
 
   pub many_rows : (count ≡ 0 → ⊥) → most < count → refuses many 0 ≡ table_tests (w ∷ more) row most none many bytes
   unfolding table_tests ◌when◌else◌

@@ -9,9 +9,9 @@ use Rattle.bits.specs.Table.{total, rows, fields_at, put_fields, field_widths, t
 use Rattle.packets.specs.declared.refusal.Refusal.{Refusal}
 use Rattle.packets.specs.declared.refusal.Refusal.TheVariants.{Deadline}
 use Rattle.packets.specs.declared.judge.Verdict.TheVariants.{Refused}
-use Rattle.packets.specs.declared.list.ListAnswer.TheVariants as list-answer
+use Rattle.packets.specs.declared.list.ListAnswer.TheVariants as list_answer
 use Rattle.packets.specs.declared.list.WrittenAnswer.{WrittenAnswer}
-use Rattle.packets.specs.declared.list.WrittenAnswer.TheVariants as written-answer
+use Rattle.packets.specs.declared.list.WrittenAnswer.TheVariants as written_answer
 use Rattle.packets.specs.Outcome.{verdict_of, ◌when◌else◌, ◌then◌, in_order, ◌given◌else◌}
 use Rattle.packets.specs.Wire.{table_tests}
 use Rattle.packets.specs.Records.{size_of, arrival_of, deadline_of, record_test, record_at, record_tests, memory_tests}
@@ -39,12 +39,12 @@ unfolding memory_tests record_tests record_at in_order record_test size_of arriv
 judge_not_refused refusal e = refusal_gives refusal [] e
 
 -- a reader that accepts a list with a nonzero unused bit, whatever it says of it
-not_unused_bit : (count bytes : ℕ) → ListJudged faulty_b 3 (list-answer.Packets count bytes) → ⊥
+not_unused_bit : (count bytes : ℕ) → ListJudged faulty_b 3 (list_answer.Packets count bytes) → ⊥
 unfolding digit bit spelt field_at total rows fields_at field_widths table_bytes unused_at ◌when◌else◌ ◌then◌ record_test record_at record_tests in_order table_tests records_on room_test read_outcome
 not_unused_bit count bytes e = let z : ◌≡◌ {A = ℕ} 0 1 = cc in omega arith
 
 -- a reader that refuses everything, whatever its refusal
-not_always_refused : (refusal : Refusal) → ListJudged list_b 3 (list-answer.Refused refusal) → ⊥
+not_always_refused : (refusal : Refusal) → ListJudged list_b 3 (list_answer.Refused refusal) → ⊥
 unfolding digit bit spelt field_at total rows fields_at field_widths table_bytes unused_at ◌when◌else◌ ◌then◌ size_of arrival_of deadline_of record_test record_at record_tests in_order table_tests records_on room_test read_outcome
 not_always_refused refusal e = refusal_gives refusal (1 ∷ 8 ∷ []) e
 
@@ -69,7 +69,7 @@ unfolding digit bit spelt field_at bytes_from replaced put_field total rows fiel
 not_behind answer p = let z : ◌≡◌ {A = ℕ} 0 0x55 = ap (λ (l : List ℕ). get_or l 8 0) p.1 in omega arith
 
 -- a writer that refuses everything, whatever its refusal
-write_not_refused : (refusal : Refusal) (after : List ℕ) → ListWritten 1 (1 ∷ 0 ∷ 1 ∷ []) list_b (written-answer.Refused refusal) after → ⊥
+write_not_refused : (refusal : Refusal) (after : List ℕ) → ListWritten 1 (1 ∷ 0 ∷ 1 ∷ []) list_b (written_answer.Refused refusal) after → ⊥
 unfolding digit bit spelt field_at bytes_from replaced put_field total rows fields_at put_fields field_widths table_widths table_bytes unused_at write_table ◌when◌else◌ ◌then◌ ◌given◌else◌ size_of arrival_of deadline_of record_test record_at record_tests in_order memory_tests write_outcome bytes_after
 write_not_refused refusal after p = refusal_gives refusal (8 ∷ []) p.0
 

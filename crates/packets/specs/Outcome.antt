@@ -6,9 +6,9 @@ use Rattle.packets.specs.declared.refusal.Refusal.TheVariants.{Short, NoPackets,
 use Rattle.packets.specs.declared.judge.Verdict.{Verdict}
 use Rattle.packets.specs.declared.judge.Verdict.TheVariants.{Passed, Refused}
 use Rattle.packets.specs.declared.list.ListAnswer.{ListAnswer}
-use Rattle.packets.specs.declared.list.ListAnswer.TheVariants as list-answer
+use Rattle.packets.specs.declared.list.ListAnswer.TheVariants as list_answer
 use Rattle.packets.specs.declared.list.WrittenAnswer.{WrittenAnswer}
-use Rattle.packets.specs.declared.list.WrittenAnswer.TheVariants as written-answer
+use Rattle.packets.specs.declared.list.WrittenAnswer.TheVariants as written_answer
 
 pub data Outcome : Type 0 where
   -- the call gives these values
@@ -78,10 +78,10 @@ verdict_of (Refused refusal) = refusal_of refusal
 
 -- a list that is read gives its packets and the bytes that it takes
 abbrev pub list_answer_of : ListAnswer → Outcome
-list_answer_of (list-answer.Packets count bytes) = gives (count ∷ bytes ∷ [])
-list_answer_of (list-answer.Refused refusal) = refusal_of refusal
+list_answer_of (list_answer.Packets count bytes) = gives (count ∷ bytes ∷ [])
+list_answer_of (list_answer.Refused refusal) = refusal_of refusal
 
 -- a list that is written gives the bytes that it takes
 abbrev pub written_answer_of : WrittenAnswer → Outcome
-written_answer_of (written-answer.Written bytes) = gives (bytes ∷ [])
-written_answer_of (written-answer.Refused refusal) = refusal_of refusal
+written_answer_of (written_answer.Written bytes) = gives (bytes ∷ [])
+written_answer_of (written_answer.Refused refusal) = refusal_of refusal

@@ -9,7 +9,7 @@ use Rattle.packets.proofs.Outcomes.{refused_leaves}
 use Rattle.plan.specs.declared.frame.ReadAnswer.{ReadAnswer}
 use Rattle.plan.specs.declared.frame.ReadAnswer.TheVariants as read_answer
 use Rattle.plan.specs.declared.frame.FrameAnswer.{FrameAnswer}
-use Rattle.plan.specs.declared.frame.FrameAnswer.TheVariants as frame-answer
+use Rattle.plan.specs.declared.frame.FrameAnswer.TheVariants as frame_answer
 use Rattle.plan.specs.Frame.{read_answer_of, entries_after, frame_answer_of, frame_after, PlanRead, PlanWritten}
 
 pub read_answer_one : (a b : ReadAnswer) → read_answer_of a ≡ read_answer_of b → a ≡ b
@@ -19,10 +19,10 @@ read_answer_one (read_answer.Refused r) (read_answer.Entries m w) e = refusal_gi
 read_answer_one (read_answer.Refused r) (read_answer.Refused s) e = ap read_answer.Refused (refusal_one r s e)
 
 pub frame_answer_one : (a b : FrameAnswer) → frame_answer_of a ≡ frame_answer_of b → a ≡ b
-frame_answer_one (frame-answer.Written n) (frame-answer.Written m) e = let f : n ≡ m = cc in cc
-frame_answer_one (frame-answer.Written n) (frame-answer.Refused s) e = refusal_gives s _ (sym e)
-frame_answer_one (frame-answer.Refused r) (frame-answer.Written m) e = refusal_gives r _ e
-frame_answer_one (frame-answer.Refused r) (frame-answer.Refused s) e = ap frame-answer.Refused (refusal_one r s e)
+frame_answer_one (frame_answer.Written n) (frame_answer.Written m) e = let f : n ≡ m = cc in cc
+frame_answer_one (frame_answer.Written n) (frame_answer.Refused s) e = refusal_gives s _ (sym e)
+frame_answer_one (frame_answer.Refused r) (frame_answer.Written m) e = refusal_gives r _ e
+frame_answer_one (frame_answer.Refused r) (frame_answer.Refused s) e = ap frame_answer.Refused (refusal_one r s e)
 
 pub plan_read_once : (frame lent : List ℕ) (a b : ReadAnswer) (after after' : List ℕ) → PlanRead frame lent a after → PlanRead frame lent b after'
     → (a ≡ b) × (after ≡ after')
@@ -39,6 +39,6 @@ unfolding entries_after
 plan_read_undone frame lent after refusal p = p.1 ∙ refused_leaves refusal _ lent p.0
 
 pub plan_written_undone : (count : ℕ) (entries : List ℕ) (cost : ℕ) (frame after : List ℕ) (refusal : Refusal)
-    → PlanWritten count entries cost frame (frame-answer.Refused refusal) after → after ≡ frame
+    → PlanWritten count entries cost frame (frame_answer.Refused refusal) after → after ≡ frame
 unfolding frame_after
 plan_written_undone count entries cost frame after refusal p = p.1 ∙ refused_leaves refusal _ frame p.0

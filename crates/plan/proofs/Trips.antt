@@ -102,7 +102,7 @@ module _ (count : ℕ) (entries : List ℕ) (cost : ℕ) (frame : List ℕ) (fit
 -- ---- read and written again
 
 -- A plan that is read into lent room, and what the room then holds, with the cost, written into any frame that has room.
-module _ (plan lent frame : List ℕ) (small : Bytes plan) (small-frame : Bytes frame) (values : List ℕ)
+module _ (plan lent frame : List ℕ) (small : Bytes plan) (small_frame : Bytes frame) (values : List ℕ)
     (gave : read_outcome plan (length lent) ≡ gives values) (long : frame_bytes (count_on plan) ≤ length frame) where
   read : Readable plan (length lent) values
   read = read_readable plan (length lent) values gave
@@ -146,7 +146,7 @@ module _ (plan lent frame : List ℕ) (small : Bytes plan) (small-frame : Bytes 
       wrote = write_gives (count_on plan) (entries_after plan lent) (cost_on plan) (length frame) (sym (fitting_memory _ _ _ still_fitting)) long
 
       small_part : Bytes (drop head_bytes frame)
-      small_part i = rw (get_or-drop head_bytes frame i 0) (small-frame (head_bytes + i))
+      small_part i = rw (get_or-drop head_bytes frame i 0) (small_frame (head_bytes + i))
 
       again : write_table (drop head_bytes frame) head_widths entry_widths (count_on plan) (read_table plan head_widths entry_widths (count_on plan))
           ≡ take (table_bytes head_widths entry_widths (count_on plan)) plan ++ drop (table_bytes head_widths entry_widths (count_on plan)) (drop head_bytes frame)
@@ -161,12 +161,12 @@ module _ (plan lent frame : List ℕ) (small : Bytes plan) (small-frame : Bytes 
 pub nothing_behind : (a b lent : List ℕ) → table_bytes head_widths entry_widths (count_on a) ≤ length a → table_bytes head_widths entry_widths (count_on a) ≤ length b
     → take (table_bytes head_widths entry_widths (count_on a)) a ≡ take (table_bytes head_widths entry_widths (count_on a)) b
     → (read_outcome a (length lent) ≡ read_outcome b (length lent)) × (entries_after a lent ≡ entries_after b lent)
-nothing_behind a b lent long-a long-b front = (outcome, after)
+nothing_behind a b lent long_a long_b front = (outcome, after)
   where
     same : (count_on b ≡ count_on a)
         × (read_table a head_widths entry_widths (count_on a) ≡ read_table b head_widths entry_widths (count_on a))
         × (wire_tests a ≡ wire_tests b)
-    same = front_same _ _ _ _ _ _ (omega arith) a b long-a long-b front
+    same = front_same _ _ _ _ _ _ (omega arith) a b long_a long_b front
 
     both : count_on a ∷ cost_on a ∷ fields_at a (count_width + cost_width) (rows (count_on a) entry_widths)
         ≡ count_on b ∷ cost_on b ∷ fields_at b (count_width + cost_width) (rows (count_on a) entry_widths)

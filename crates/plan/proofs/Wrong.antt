@@ -13,7 +13,7 @@ use Rattle.packets.proofs.Answers.{refusal_gives}
 use Rattle.plan.specs.declared.frame.ReadAnswer.{ReadAnswer}
 use Rattle.plan.specs.declared.frame.ReadAnswer.TheVariants as read_answer
 use Rattle.plan.specs.declared.frame.FrameAnswer.{FrameAnswer}
-use Rattle.plan.specs.declared.frame.FrameAnswer.TheVariants as frame-answer
+use Rattle.plan.specs.declared.frame.FrameAnswer.TheVariants as frame_answer
 use Rattle.plan.specs.Entries.{entry_test, entry_at, entry_tests}
 use Rattle.plan.specs.Frame.{frame_bytes, cost_on, entries_on, read_answer_of, frame_answer_of, room_test, read_outcome, entries_after, memory_tests, write_outcome, framed, frame_after, PlanRead, PlanWritten}
 
@@ -57,8 +57,8 @@ unfolding digit bit spelt field_at bytes_from replaced put_field total rows fiel
 writes_b answer after p = p
 
 -- a writer that refuses everything
-pub write_not_refused : (refusal : Refusal) (after : List ℕ) → PlanWritten 1 entry_b 1 blank (frame-answer.Refused refusal) after → ⊥
-write_not_refused refusal after p = refusal_gives refusal _ (writes_b (frame-answer.Refused refusal) after p).0
+pub write_not_refused : (refusal : Refusal) (after : List ℕ) → PlanWritten 1 entry_b 1 blank (frame_answer.Refused refusal) after → ⊥
+write_not_refused refusal after p = refusal_gives refusal _ (writes_b (frame_answer.Refused refusal) after p).0
 
 -- a writer that writes nothing
 pub write_not_nothing : (answer : FrameAnswer) → PlanWritten 1 entry_b 1 blank answer blank → ⊥

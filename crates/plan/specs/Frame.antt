@@ -9,7 +9,7 @@ use Rattle.plan.specs.Entries.{most_entries, entry_numbers, entry_widths, entry_
 use Rattle.plan.specs.declared.frame.ReadAnswer.{ReadAnswer}
 use Rattle.plan.specs.declared.frame.ReadAnswer.TheVariants as read_answer
 use Rattle.plan.specs.declared.frame.FrameAnswer.{FrameAnswer}
-use Rattle.plan.specs.declared.frame.FrameAnswer.TheVariants as frame-answer
+use Rattle.plan.specs.declared.frame.FrameAnswer.TheVariants as frame_answer
 
 -- the bytes at a frame's front that belong to the radio driver (bytes)
 abbrev pub head_bytes : ℕ
@@ -38,8 +38,8 @@ read_answer_of (read_answer.Refused refusal) = refusal_of refusal
 
 -- a plan that is written gives the bytes of the frame that it takes, the head included (bytes)
 abbrev pub frame_answer_of : FrameAnswer → Outcome
-frame_answer_of (frame-answer.Written bytes) = gives (bytes ∷ [])
-frame_answer_of (frame-answer.Refused refusal) = refusal_of refusal
+frame_answer_of (frame_answer.Written bytes) = gives (bytes ∷ [])
+frame_answer_of (frame_answer.Refused refusal) = refusal_of refusal
 
 -- ---- reading
 

@@ -20,7 +20,7 @@ use Rattle.packets.proofs.Lists.{read_passes, read_refused, read_told, length_re
 use Rattle.policy.specs.Rounds.{outcome_of}
 use Rattle.timetable.specs.declared.made.Timetable.{Timetable}
 use Rattle.timetable.specs.Entries.{entries_of, numbers_of}
-use Rattle.timetable.specs.Entries.{entry_numbers as madeNumbers}
+use Rattle.timetable.specs.Entries.{entry_numbers as made_numbers}
 use Rattle.timetable.specs.Steps.{Planned}
 use Rattle.timetable.proofs.Lists.{timetable}
 use Rattle.timetable.specs.Costs.{cost_of}
@@ -125,19 +125,19 @@ module _ (bytes frame : List ℕ) where
 rest : ℕ → List ℕ → List ℕ → List ℕ
 rest count records zeros = drop (0 + length (plan_numbers (entries_of count records))) zeros
 
-module _ (count : ℕ) (records frame zeros rows made-entries : List ℕ) (made : Timetable) (accepted : Accepted count records) (planned : Planned count records made-entries made)
-    (copied : rows ≡ sets zeros 0 (sixes made.count made-entries)) (roomy : entry_numbers * most_entries ≤ length zeros) where
+module _ (count : ℕ) (records frame zeros rows made_entries : List ℕ) (made : Timetable) (accepted : Accepted count records) (planned : Planned count records made_entries made)
+    (copied : rows ≡ sets zeros 0 (sixes made.count made_entries)) (roomy : entry_numbers * most_entries ≤ length zeros) where
   -- the rows are the plan's numbers, and behind them what stood there
   rows_are : rows ≡ plan_numbers (entries_of count records) ++ rest count records zeros
   unfolding rest
   rows_are =
       let t = timetable count records accepted in
       let long = length_numbers (entries_of count records) in
-      let split : made-entries ≡ numbers_of (entries_of count records) ++ drop (madeNumbers * made.count) made-entries =
-      sym (take-append-drop (madeNumbers * made.count) made-entries)
-      ∙ ap (λ (l : List ℕ). l ++ drop (madeNumbers * made.count) made-entries) planned.entries_are in
-      let six : sixes made.count made-entries ≡ plan_numbers (entries_of count records) =
-      ap (λ (k : ℕ). sixes k made-entries) planned.count_is
+      let split : made_entries ≡ numbers_of (entries_of count records) ++ drop (made_numbers * made.count) made_entries =
+      sym (take-append-drop (made_numbers * made.count) made_entries)
+      ∙ ap (λ (l : List ℕ). l ++ drop (made_numbers * made.count) made_entries) planned.entries_are in
+      let six : sixes made.count made_entries ≡ plan_numbers (entries_of count records) =
+      ap (λ (k : ℕ). sixes k made_entries) planned.count_is
       ∙ ap (sixes (length (entries_of count records))) split
       ∙ numbers_sixes (entries_of count records) _ in
       copied ∙ ap (sets zeros 0) six ∙ sets-eq (plan_numbers (entries_of count records)) zeros 0 (omega (arith, t.few))

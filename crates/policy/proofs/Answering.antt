@@ -66,9 +66,9 @@ module _ (count : ℕ) (records : List ℕ) (accepted : Accepted count records) 
           sym (passed ∙ unfold ◌when◌else◌ in rw (le-ltb (length lent) (epoch_numbers * epoch_count count records) (omega (arith, h, p))) refl)
 
 -- the rows in the arrays are the rows of the list
-pub rows_are : (count : ℕ) (records : List ℕ) → Accepted count records → (n : ℕ) (points packet-n packet-d epoch-n epoch-d : List ℕ) (rounds : ℕ)
-    → Steps.Rated count records n points packet-n packet-d epoch-n epoch-d rounds
-    → (n - 1 ≡ epoch_count count records) × (epoch_rows points (given_in epoch-n epoch-d) (n - 1) ≡ rates_of count records)
+pub rows_are : (count : ℕ) (records : List ℕ) → Accepted count records → (n : ℕ) (points packet_n packet_d epoch_n epoch_d : List ℕ) (rounds : ℕ)
+    → Steps.Rated count records n points packet_n packet_d epoch_n epoch_d rounds
+    → (n - 1 ≡ epoch_count count records) × (epoch_rows points (given_in epoch_n epoch_d) (n - 1) ≡ rates_of count records)
 unfolding epoch_count epochs_of rates_of given_in
 rows_are count records accepted n points pn pd en ed rounds r = (
   count_is,

@@ -45,16 +45,16 @@ standing_fewer day done Seen Fewer sub (between s e) h = (h.0, λ s' e' f. h.1 s
 module _ (day : Day) (done : Progress) (positive : Positive day done) (Seen : ℕ → ℕ → Type 0) (s e : ℕ) (d : DataInterval day s e) where
   -- it holds nothing unassigned: the best stays
   pub step_empty : (0 < load day done s e → ⊥) → (best : Interval) → Standing day done Seen best → Standing day done (And Seen s e) best
-  step_empty no-load nowhere h = λ s' e' x p. go s' e' x p
+  step_empty no_load nowhere h = λ s' e' x p. go s' e' x p
     where
       go : (s' e' : ℕ) → And Seen s e s' e' → 0 < load day done s' e' → ⊥
       go s' e' (inl a) p = h s' e' a p
-      go s' e' (inr (a, b)) p = no-load (subst₂ (λ (x y : ℕ). 0 < load day done x y) a b p)
-  step_empty no-load (between s₀ e₀) h = (h.0, go)
+      go s' e' (inr (a, b)) p = no_load (subst₂ (λ (x y : ℕ). 0 < load day done x y) a b p)
+  step_empty no_load (between s₀ e₀) h = (h.0, go)
     where
       go : (s' e' : ℕ) → And Seen s e s' e' → 0 < load day done s' e' → Behind (figures day done s' e') (figures day done s₀ e₀)
       go s' e' (inl a) p = h.1 s' e' a p
-      go s' e' (inr (a, b)) p = absurd (no-load (subst₂ (λ (x y : ℕ). 0 < load day done x y) a b p))
+      go s' e' (inr (a, b)) p = absurd (no_load (subst₂ (λ (x y : ℕ). 0 < load day done x y) a b p))
 
   -- it does not come before the best: the best stays
   pub step_behind : (s₀ e₀ : ℕ) → Behind (figures day done s e) (figures day done s₀ e₀)

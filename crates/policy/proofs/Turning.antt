@@ -48,13 +48,13 @@ given_chosen true n d n' d' = refl
 given_chosen false n d n' d' = refl
 
 -- the shares stand for what was given
-pub record Agrees (day : Day) (done : Progress) (packet-n packet-d epoch-n epoch-d : List ℕ) : Type 0 where
-  pub packets : (i : ℕ) → i < day.packets.count → given_of (get_or packet-n i 0) (get_or packet-d i 0) ≡ done.packet i
-  pub epochs : (k : ℕ) → k < day.epochs.count → given_of (get_or epoch-n k 0) (get_or epoch-d k 0) ≡ done.epoch k
+pub record Agrees (day : Day) (done : Progress) (packet_n packet_d epoch_n epoch_d : List ℕ) : Type 0 where
+  pub packets : (i : ℕ) → i < day.packets.count → given_of (get_or packet_n i 0) (get_or packet_d i 0) ≡ done.packet i
+  pub epochs : (k : ℕ) → k < day.epochs.count → given_of (get_or epoch_n k 0) (get_or epoch_d k 0) ≡ done.epoch k
 
-pub agrees_first : (day : Day) (packet-n packet-d epoch-n epoch-d : List ℕ) → day.packets.count ≤ 128 → day.epochs.count ≤ 128
-    → ((i : ℕ) → i < 128 → get_or packet-d i 0 ≡ 0) → ((i : ℕ) → i < 128 → get_or epoch-d i 0 ≡ 0)
-    → Agrees day at_first packet-n packet-d epoch-n epoch-d
+pub agrees_first : (day : Day) (packet_n packet_d epoch_n epoch_d : List ℕ) → day.packets.count ≤ 128 → day.epochs.count ≤ 128
+    → ((i : ℕ) → i < 128 → get_or packet_d i 0 ≡ 0) → ((i : ℕ) → i < 128 → get_or epoch_d i 0 ≡ 0)
+    → Agrees day at_first packet_n packet_d epoch_n epoch_d
 unfolding at_first
 agrees_first day pn pd en ed h g p q =
     record {
@@ -156,7 +156,7 @@ module _ (count : ℕ) (records : List ℕ) (accepted : Accepted count records) 
     -- the place of a point is found
     pub place_found : (times place : List ℕ) (value : ℕ → ℕ) → ((i : ℕ) → i < count → get_or times i 0 ≡ value i) → ((i : ℕ) → i < count → Has (value i) P)
         → Placed count times n points place → (i : ℕ) → i < count → (get_or place i 0 < n) × (get_or points (get_or place i 0) 0 ≡ value i)
-    place_found times place value value-is has placed i h = go (same (dec_lt w.0 (get_or place i 0)) (dec_lt (get_or place i 0) w.0))
+    place_found times place value value_is has placed i h = go (same (dec_lt w.0 (get_or place i 0)) (dec_lt (get_or place i 0) w.0))
       where
         is : Before (get_or times i 0) n points (get_or place i 0)
         is = placed.is i h
@@ -168,7 +168,7 @@ module _ (count : ℕ) (records : List ℕ) (accepted : Accepted count records) 
         in_points = omega (arith, w.1, n_is)
 
         there : get_or points w.0 0 ≡ get_or times i 0
-        there = point_at w.0 in_points ∙ w.2 ∙ sym (value-is i h)
+        there = point_at w.0 in_points ∙ w.2 ∙ sym (value_is i h)
 
         -- neither before it nor behind it
         same : Dec (w.0 < get_or place i 0) → Dec (get_or place i 0 < w.0) → get_or place i 0 ≡ w.0
@@ -177,7 +177,7 @@ module _ (count : ℕ) (records : List ℕ) (accepted : Accepted count records) 
         same (no p) (no q) = omega (arith, p, q)
 
         go : get_or place i 0 ≡ w.0 → (get_or place i 0 < n) × (get_or points (get_or place i 0) 0 ≡ value i)
-        go e = (omega (arith, e, in_points), ap (λ (k : ℕ). get_or points k 0) e ∙ there ∙ value-is i h)
+        go e = (omega (arith, e, in_points), ap (λ (k : ℕ). get_or points k 0) e ∙ there ∙ value_is i h)
 
   module _ (n : ℕ) (points from till bytes ends seconds start row bounds arrivals deadlines spots : List ℕ) (setup : SetUp count records n points from till bytes ends seconds start row bounds arrivals deadlines spots) where
     from_is : (i : ℕ) → i < count → get_or from i 0 ≡ arrival_of records i
@@ -227,8 +227,8 @@ module _ (count : ℕ) (records : List ℕ) (accepted : Accepted count records) 
     whole = omega (arith, setup.n_is, points_some)
 
     -- the ground of a round
-    ground : (done : Progress) (packet-n packet-d epoch-n epoch-d rest : List ℕ) → Agrees day done packet-n packet-d epoch-n epoch-d
-        → Left count bytes packet-d rest → Ground day done count from rest place n points (λ k. left_over (get_or epoch-d k 0) (get_or seconds k 0))
+    ground : (done : Progress) (packet_n packet_d epoch_n epoch_d rest : List ℕ) → Agrees day done packet_n packet_d epoch_n epoch_d
+        → Left count bytes packet_d rest → Ground day done count from rest place n points (λ k. left_over (get_or epoch_d k 0) (get_or seconds k 0))
     unfolding day_of packets_of epochs_of left_over
     ground done pn pd en ed rest agrees rest_is =
         record {
@@ -248,8 +248,8 @@ module _ (count : ℕ) (records : List ℕ) (accepted : Accepted count records) 
         }
 
     -- the board of a round
-    board : (done : Progress) (packet-n packet-d epoch-n epoch-d rest due passed reach : List ℕ) → Agrees day done packet-n packet-d epoch-n epoch-d
-        → Left count bytes packet-d rest → Gathered count rest row due → Passed n seconds epoch-d passed → Gathered count passed spots reach
+    board : (done : Progress) (packet_n packet_d epoch_n epoch_d rest due passed reach : List ℕ) → Agrees day done packet_n packet_d epoch_n epoch_d
+        → Left count bytes packet_d rest → Gathered count rest row due → Passed n seconds epoch_d passed → Gathered count passed spots reach
         → Board day done count from start passed arrivals deadlines bounds due reach
     board done pn pd en ed rest due passed reach agrees rest_is due_is passed_is reach_is =
         record {
@@ -315,7 +315,7 @@ module _ (count : ℕ) (records : List ℕ) (accepted : Accepted count records) 
 
     -- ## One turn
 
-    module _ (r : ℕ) (packet-n packet-d epoch-n epoch-d : List ℕ) (leader : Leader) (agrees : Agrees day (after day r) packet-n packet-d epoch-n epoch-d) (leads : LeaderIs count n from bytes seconds start row bounds arrivals deadlines spots packet-d epoch-d leader) where
+    module _ (r : ℕ) (packet_n packet_d epoch_n epoch_d : List ℕ) (leader : Leader) (agrees : Agrees day (after day r) packet_n packet_d epoch_n epoch_d) (leads : LeaderIs count n from bytes seconds start row bounds arrivals deadlines spots packet_d epoch_d leader) where
       abbrev done : Progress
       done = after day r
 
@@ -324,7 +324,7 @@ module _ (count : ℕ) (records : List ℕ) (accepted : Accepted count records) 
 
       here : Board day done count from start leads.passed arrivals deadlines bounds leads.due leads.reach
       here =
-          board done packet-n packet-d epoch-n epoch-d leads.left leads.due leads.passed leads.reach agrees
+          board done packet_n packet_d epoch_n epoch_d leads.left leads.due leads.passed leads.reach agrees
           leads.left_is leads.due_is leads.passed_is leads.reach_is
 
       -- a leader is the pick
@@ -352,9 +352,9 @@ module _ (count : ℕ) (records : List ℕ) (accepted : Accepted count records) 
           (λ i. give_rate day done leader.start leader.end (lowest_n (sym x.1 i) (sym x.2 i)) (lowest_d (sym x.1 i) (sym x.2 i))))
 
       -- the shares after it stand for what the round gives
-      pub turn : 0 < leader.load → (packet-n' packet-d' epoch-n' epoch-d' : List ℕ)
-          → Taken count n points from till ends packet-n packet-d epoch-n epoch-d leader packet-n' packet-d' epoch-n' epoch-d'
-          → Agrees day (after day (suc r)) packet-n' packet-d' epoch-n' epoch-d'
+      pub turn : 0 < leader.load → (packet_n' packet_d' epoch_n' epoch_d' : List ℕ)
+          → Taken count n points from till ends packet_n packet_d epoch_n epoch_d leader packet_n' packet_d' epoch_n' epoch_d'
+          → Agrees day (after day (suc r)) packet_n' packet_d' epoch_n' epoch_d'
       turn h pn pd en ed t = subst (λ (x : Progress). Agrees day x pn pd en ed) (sym (round_taken h)) next
         where
           d_some : 0 < lowest_d leader.load leader.len
@@ -368,12 +368,12 @@ module _ (count : ℕ) (records : List ℕ) (accepted : Accepted count records) 
               unfold give_rate day_of packets_of epochs_of in
               record {
                 packets = λ i q.
-                    gift_assigns (packets_of count records) done.packet from till packet-n packet-d pn pd leader.start leader.end _ _ i q d_some
+                    gift_assigns (packets_of count records) done.packet from till packet_n packet_d pn pd leader.start leader.end _ _ i q d_some
                     (from_is i q) (till_is i q) (agrees.packets i q) t.packets;
                 epochs = λ k q.
-                    gift_assigns (epochs_of P) done.epoch points ends epoch-n epoch-d en ed leader.start leader.end _ _ k q d_some
+                    gift_assigns (epochs_of P) done.epoch points ends epoch_n epoch_d en ed leader.start leader.end _ _ k q d_some
                     (at k (within k q).0) (ends_are k (within k q).2 ∙ at (suc k) (within k q).1) (agrees.epochs k q)
-                    (subst (λ (x : ℕ). Shared x points ends epoch-n epoch-d leader.start leader.end (lowest_n leader.load leader.len) (lowest_d leader.load leader.len) en ed) same_count t.epochs);
+                    (subst (λ (x : ℕ). Shared x points ends epoch_n epoch_d leader.start leader.end (lowest_n leader.load leader.len) (lowest_d leader.load leader.len) en ed) same_count t.epochs);
               }
 
       -- and it counts
@@ -390,18 +390,18 @@ module _ (count : ℕ) (records : List ℕ) (accepted : Accepted count records) 
               (sym (ap (λ (x : Leader). x.load) leads.leads) ∙ h)
 
       -- one turn on
-      pub turn_on : 0 < leader.load → (packet-n' packet-d' epoch-n' epoch-d' : List ℕ)
-          → Taken count n points from till ends packet-n packet-d epoch-n epoch-d leader packet-n' packet-d' epoch-n' epoch-d'
-          → Agrees day (after day (r + 1)) packet-n' packet-d' epoch-n' epoch-d'
+      pub turn_on : 0 < leader.load → (packet_n' packet_d' epoch_n' epoch_d' : List ℕ)
+          → Taken count n points from till ends packet_n packet_d epoch_n epoch_d leader packet_n' packet_d' epoch_n' epoch_d'
+          → Agrees day (after day (r + 1)) packet_n' packet_d' epoch_n' epoch_d'
       turn_on h pn pd en ed t = rw add-one (turn h pn pd en ed t)
 
     -- ## The beginning and the end
 
     -- at first nothing is given
-    pub first_agrees : (packet-n packet-d epoch-n epoch-d : List ℕ) → ((i : ℕ) → i < 128 → get_or packet-d i 0 ≡ 0) → ((k : ℕ) → k < 128 → get_or epoch-d k 0 ≡ 0)
-        → Agrees day (after day 0) packet-n packet-d epoch-n epoch-d
+    pub first_agrees : (packet_n packet_d epoch_n epoch_d : List ℕ) → ((i : ℕ) → i < 128 → get_or packet_d i 0 ≡ 0) → ((k : ℕ) → k < 128 → get_or epoch_d k 0 ≡ 0)
+        → Agrees day (after day 0) packet_n packet_d epoch_n epoch_d
     unfolding after
-    first_agrees pn pd en ed no-packet no-epoch = agrees_first day pn pd en ed packets_few epochs_few no-packet no-epoch
+    first_agrees pn pd en ed no_packet no_epoch = agrees_first day pn pd en ed packets_few epochs_few no_packet no_epoch
       where
         packets_few : day.packets.count ≤ 128
         packets_few = unfold day_of packets_of in omega (arith, accepted.few)
@@ -417,8 +417,8 @@ module _ (count : ℕ) (records : List ℕ) (accepted : Accepted count records) 
     first_counts = refl
 
     -- the end of the rounds
-    pub rated : (r : ℕ) (packet-n packet-d epoch-n epoch-d : List ℕ) → Agrees day (after day r) packet-n packet-d epoch-n epoch-d
-        → (after day r).rounds ≡ r → after day count ≡ after day r → Rated count records n points packet-n packet-d epoch-n epoch-d r
+    pub rated : (r : ℕ) (packet_n packet_d epoch_n epoch_d : List ℕ) → Agrees day (after day r) packet_n packet_d epoch_n epoch_d
+        → (after day r).rounds ≡ r → after day count ≡ after day r → Rated count records n points packet_n packet_d epoch_n epoch_d r
     unfolding outcome_of day_of packets_of epochs_of
     rated r pn pd en ed agrees counted end =
         record {

@@ -212,26 +212,26 @@ pub record SetUp (count : ℕ) (records : List ℕ) (n : ℕ) (points from till 
   pub spots_are : Gathered count place row spots
 
 -- r leads what is left of the packets and of the epochs
-pub record LeaderIs (count n : ℕ) (from bytes seconds start row bounds arrivals deadlines spots packet-d epoch-d : List ℕ) (r : Leader) : Type 0 where
+pub record LeaderIs (count n : ℕ) (from bytes seconds start row bounds arrivals deadlines spots packet_d epoch_d : List ℕ) (r : Leader) : Type 0 where
   pub left : List ℕ
   pub due : List ℕ
   pub passed : List ℕ
   pub reach : List ℕ
-  pub left_is : Left count bytes packet-d left
+  pub left_is : Left count bytes packet_d left
   pub due_is : Gathered count left row due
-  pub passed_is : Passed n seconds epoch-d passed
+  pub passed_is : Passed n seconds epoch_d passed
   pub reach_is : Gathered count passed spots reach
   pub leads : r ≡ led count from start passed arrivals deadlines bounds due reach count
 
 -- the leader's packets and epochs have its density in lowest terms
-pub record Taken (count n : ℕ) (points from till ends packet-n packet-d epoch-n epoch-d : List ℕ) (r : Leader) (packet-n' packet-d' epoch-n' epoch-d' : List ℕ) : Type 0 where
-  pub packets : Shared count from till packet-n packet-d r.start r.end (lowest_n r.load r.len) (lowest_d r.load r.len) packet-n' packet-d'
-  pub epochs : Shared (pred n) points ends epoch-n epoch-d r.start r.end (lowest_n r.load r.len) (lowest_d r.load r.len) epoch-n' epoch-d'
+pub record Taken (count n : ℕ) (points from till ends packet_n packet_d epoch_n epoch_d : List ℕ) (r : Leader) (packet_n' packet_d' epoch_n' epoch_d' : List ℕ) : Type 0 where
+  pub packets : Shared count from till packet_n packet_d r.start r.end (lowest_n r.load r.len) (lowest_d r.load r.len) packet_n' packet_d'
+  pub epochs : Shared (pred n) points ends epoch_n epoch_d r.start r.end (lowest_n r.load r.len) (lowest_d r.load r.len) epoch_n' epoch_d'
 
 -- the rates of a list stand in these arrays: the points, N and D of each packet and each epoch (D 0 for a silent one), and the rounds
-pub record Rated (count : ℕ) (records : List ℕ) (n : ℕ) (points packet-n packet-d epoch-n epoch-d : List ℕ) (rounds : ℕ) : Type 0 where
+pub record Rated (count : ℕ) (records : List ℕ) (n : ℕ) (points packet_n packet_d epoch_n epoch_d : List ℕ) (rounds : ℕ) : Type 0 where
   pub points_are : take n points ≡ points_of count records
   pub n_is : n ≡ length (points_of count records)
-  pub packets_are : (i : ℕ) → i < count → given_of (get_or packet-n i 0) (get_or packet-d i 0) ≡ (outcome_of count records).packet i
-  pub epochs_are : (k : ℕ) → k < pred n → given_of (get_or epoch-n k 0) (get_or epoch-d k 0) ≡ (outcome_of count records).epoch k
+  pub packets_are : (i : ℕ) → i < count → given_of (get_or packet_n i 0) (get_or packet_d i 0) ≡ (outcome_of count records).packet i
+  pub epochs_are : (k : ℕ) → k < pred n → given_of (get_or epoch_n k 0) (get_or epoch_d k 0) ≡ (outcome_of count records).epoch k
   pub rounds_are : rounds ≡ (outcome_of count records).rounds

@@ -221,7 +221,7 @@ module _ (count : ℕ) (records : List ℕ) (k : ℕ) (epoch : Epoch) (n d : Lis
       }
 
   module _ (unsent entries : List ℕ) (behind x next full : ℕ) (f : Filling count records k epoch unsent entries behind x next) (h : next < count)
-      (f-is : full ≡ units_in day k epoch.n) where
+      (f_is : full ≡ units_in day k epoch.n) where
     stretch : Stretch day rates k epoch.n epoch.d (after f.turn) next
         (min ((after f.turn).unsent next) (units_in day k epoch.n - (after f.turn).offset))
     stretch = (going f.turn next f.next_number h).0
@@ -230,7 +230,7 @@ module _ (count : ℕ) (records : List ℕ) (k : ℕ) (epoch : Epoch) (n d : Lis
     ready =
         let few : behind + 7 ≤ entry_numbers * most_entries = omega (arith, f.sheeted.at_is, one, epochs_few count records accepted, accepted.few, packets_are, is.k_is) in
         record {
-          room = omega (arith, f.x_is, f-is, stretch.room);
+          room = omega (arith, f.x_is, f_is, stretch.room);
           some = omega (arith, f.sheeted.unsent_is next h, stretch.some, stretch.has);
           place = omega (arith, few, f.sheeted.entries_long);
           few = few;
@@ -258,7 +258,7 @@ module _ (count : ℕ) (records : List ℕ) (k : ℕ) (epoch : Epoch) (n d : Lis
         → Sheeted count (sent day k epoch.n epoch.d (after f.turn) next y) (set unsent next (get_or unsent next 0 - y))
         (with_row entries behind (next ∷ epoch.start ∷ r ∷ epoch.d ∷ x ∷ (x + y) ∷ epoch.n ∷ [])) (behind + 7)
     unfolding sent
-    sheet_next y r y-is r-is =
+    sheet_next y r y_is r_is =
         record {
           unsent_long = length-set unsent next (get_or unsent next 0 - y) ∙ f.sheeted.unsent_long;
           unsent_is = λ i q. one i q (ℕ_discrete i next);
@@ -277,7 +277,7 @@ module _ (count : ℕ) (records : List ℕ) (k : ℕ) (epoch : Epoch) (n d : Lis
         e = new_entry day k epoch.n epoch.d next (after f.turn).offset y
 
         same_row : row ≡ e.packet ∷ e.start ∷ e.R ∷ e.D ∷ e.from ∷ e.to ∷ e.N ∷ []
-        same_row = cc (is.start_is, r-is, f.x_is)
+        same_row = cc (is.start_is, r_is, f.x_is)
 
         one : (i : ℕ) → i < count → Dec (i ≡ next) → get_or (set unsent next (get_or unsent next 0 - y)) i 0 ≡ less (after f.turn).unsent next y i
         one i q (yes g) =
@@ -294,16 +294,16 @@ module _ (count : ℕ) (records : List ℕ) (k : ℕ) (epoch : Epoch) (n d : Lis
         → entries' ≡ with_row entries behind (next ∷ epoch.start ∷ r ∷ epoch.d ∷ x ∷ (x + y) ∷ epoch.n ∷ [])
         → next' ≡ next_found count epoch records n d unsent' (x + y) full
         → Filling count records k epoch unsent' entries' (behind + 7) (x + y) next'
-    filling_next y r next' unsent' entries' y-is r-is u-is e-is n_is =
+    filling_next y r next' unsent' entries' y_is r_is u_is e_is n_is =
         record {
           turn = suc f.turn;
           sheeted = here;
           x_is = x_next;
-          next_number = n_is ∙ next_agrees (after (suc f.turn)) unsent' (x + y) full here.unsent_is x_next f-is;
+          next_number = n_is ∙ next_agrees (after (suc f.turn)) unsent' (x + y) full here.unsent_is x_next f_is;
         }
       where
         same : y ≡ min ((after f.turn).unsent next) (units_in day k epoch.n - (after f.turn).offset)
-        same = y-is ∙ cc (f.sheeted.unsent_is next h, f-is, f.x_is)
+        same = y_is ∙ cc (f.sheeted.unsent_is next h, f_is, f.x_is)
 
         sheet_is : sent day k epoch.n epoch.d (after f.turn) next y ≡ after (suc f.turn)
         sheet_is = ap (sent day k epoch.n epoch.d (after f.turn) next) same ∙ sym after_next
@@ -311,9 +311,9 @@ module _ (count : ℕ) (records : List ℕ) (k : ℕ) (epoch : Epoch) (n d : Lis
         here : Sheeted count (after (suc f.turn)) unsent' entries' (behind + 7)
         here =
             subst (λ (s : Sheet). Sheeted count s unsent' entries' (behind + 7)) sheet_is
-            (subst (λ (u : List ℕ). Sheeted count (sent day k epoch.n epoch.d (after f.turn) next y) u entries' (behind + 7)) (sym u-is)
-            (subst (λ (l : List ℕ). Sheeted count (sent day k epoch.n epoch.d (after f.turn) next y) (set unsent next (get_or unsent next 0 - y)) l (behind + 7)) (sym e-is)
-            (sheet_next y r same r-is)))
+            (subst (λ (u : List ℕ). Sheeted count (sent day k epoch.n epoch.d (after f.turn) next y) u entries' (behind + 7)) (sym u_is)
+            (subst (λ (l : List ℕ). Sheeted count (sent day k epoch.n epoch.d (after f.turn) next y) (set unsent next (get_or unsent next 0 - y)) l (behind + 7)) (sym e_is)
+            (sheet_next y r same r_is)))
 
         x_next : x + y ≡ (after (suc f.turn)).offset
         x_next = ap (λ (a : ℕ). a + y) f.x_is ∙ moved ∙ ap (λ (s : Sheet). s.offset) sheet_is

@@ -234,8 +234,8 @@ module _ (count : ℕ) (a b : List ℕ) (front : take (record_numbers * count) a
   points_are = points_same count (omega arith)
 
   -- the day of the second row with these event points
-  abbrev dayWith : List ℕ → Day
-  dayWith points = record { packets = packets_of count b; epochs = epochs_of points }
+  abbrev day_with : List ℕ → Day
+  day_with points = record { packets = packets_of count b; epochs = epochs_of points }
 
   abbrev Same : Progress → Progress → Type 0
   Same = Alike count (arrival_of a) (deadline_of a) (λ i. air_bytes (size_of a i)) (arrival_of b) (deadline_of b) (λ i. air_bytes (size_of b i)) (epochs_of (points_of count a))
@@ -244,7 +244,7 @@ module _ (count : ℕ) (a b : List ℕ) (front : take (record_numbers * count) a
   alike : Same (outcome_of count a) (outcome_of count b)
   unfolding outcome_of day_of packets_of
   alike =
-      subst (λ (points : List ℕ). Same (after (day_of count a) count) (after (dayWith points) count)) points_are
+      subst (λ (points : List ℕ). Same (after (day_of count a) count) (after (day_with points) count)) points_are
       (after_alike count (arrival_of a) (deadline_of a) (λ i. air_bytes (size_of a i)) (arrival_of b) (deadline_of b) (λ i. air_bytes (size_of b i)) (epochs_of (points_of count a))
       arrival_is deadline_is size_is count)
 
@@ -264,7 +264,7 @@ module _ (count : ℕ) (a b : List ℕ) (front : take (record_numbers * count) a
       (sheet_level count (arrival_of a) (deadline_of a) (λ i. air_bytes (size_of a i)) (arrival_of b) (deadline_of b) (λ i. air_bytes (size_of b i)) (epochs_of (points_of count a))
       arrival_is deadline_is size_is
       (outcome_of count a) (outcome_of count b) alike (epochs_of (points_of count a)).count).entries_too
-      ∙ ap (λ (points : List ℕ). (sheet_at (dayWith points) (outcome_of count b) (epochs_of points).count).entries) points_are
+      ∙ ap (λ (points : List ℕ). (sheet_at (day_with points) (outcome_of count b) (epochs_of points).count).entries) points_are
 
   cost_too : cost_of count a ≡ cost_of count b
   unfolding cost_of day_of packets_of
