@@ -1,7 +1,7 @@
 /* Plans three packets and prints the radio's timetable in seconds: the packets are written as a list, the list is planned into a frame, and the plan is read back
  * from the frame, as a radio driver would. Then two refusals. rust/plan.rs does the same in Rust; examples/plan.expected is what both print.
  *
- *     rt staticlib downcrook_c
+ *     bin/library
  *     gcc -std=c11 -Iinclude -o plan examples/plan.c target/staticlib/libdowncrook_c.a
  */
 #include "downcrook.h"

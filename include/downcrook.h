@@ -1,4 +1,4 @@
-/* Downcrook for C. Link target/staticlib/libdowncrook_c.a (x86-64), which `rt staticlib downcrook_c` makes.
+/* Downcrook for C. Link target/staticlib/libdowncrook_c.a (x86-64), which `bin/library` makes.
  *
  * Every call is proved, and every length and every content is answered: nothing has to be tested first. An answer is a plain struct of numbers. Its refusal is 0
  * where the call did its work, else 1 to 11 with the place, and its other numbers are then 0. A refusal changes nothing that was lent.

@@ -1,4 +1,4 @@
-//! Downcrook for Rust: safe functions over slices, for the static library that `rt staticlib downcrook_c` makes. Standard library only. Put this file beside
+//! Downcrook for Rust: safe functions over slices, for the static library that `bin/library` makes. Standard library only. Put this file beside
 //! your own and say `mod downcrook;`; build with `rustc -L target/staticlib -l static=downcrook_c`.
 //!
 //! Every call is proved, and every length and every content is answered: nothing has to be tested first. A refusal changes nothing that was lent. What is proved

@@ -1,7 +1,7 @@
 //! Plans three packets and prints the radio's timetable in seconds: the packets are written as a list, the list is planned into a frame, and the plan is read back
 //! from the frame, as a radio driver would. Then two refusals. examples/plan.c does the same in C; examples/plan.expected is what both print.
 //!
-//!     rt staticlib downcrook_c
+//!     bin/library
 //!     rustc -L target/staticlib -l static=downcrook_c -o plan rust/plan.rs
 mod downcrook;
 
