@@ -7,7 +7,7 @@ use Rattle.fractions.proofs.lowest.Goals as goal
 use Rattle.fractions.proofs.lowest.Goals.{After-greatest_divisor-divisor}
 
 positive : (c : After-greatest_divisor-divisor) → 0 < c.greatest_divisor-divisor.result
-positive c = rw c.greatest_divisor-divisor.ensures (gcd_positive c.args.load c.args.length c.requires)
+positive c = rw c.greatest_divisor-divisor.ensures (gcd_positive _ _ c.requires)
 
 pub nonzero_div-result : goal.nonzero_div-result
 nonzero_div-result c = positive (goal.at.nonzero_div-result c).After-greatest_divisor-divisor

