@@ -1,3 +1,4 @@
+-- `policy::write_rows` meets its contract: the goals that the check leaves. What the loop keeps is in Invariants.antt. Assumes nothing.
 use mathlib.Core.Path.{ap, ◌∙◌}
 use Rattle.policy.specs.Steps.{given_in}
 use Rattle.policy.specs.Answer.{shown_n, shown_d}

@@ -1,3 +1,4 @@
+-- `timetable::copy_in` meets its contract: the goals that the check leaves. What the loop keeps is in Invariants.antt. Assumes nothing.
 use native.Mathlib.Omega.{arith}
 use lib.Seq.{paste-zero}
 use Rattle.timetable.proofs.Copying.{copied_all, copied_long, copied_next}

@@ -1,3 +1,4 @@
+-- `packets::judge::judge_records` meets its contract: the goals that the check leaves. What the loop keeps is in Invariants.antt. Assumes nothing.
 use Rattle.std.proofs.Common.{rules}
 use Rattle.packets.specs.Records.{record_tests, record_at, size_of, arrival_of, deadline_of}
 use Rattle.packets.proofs.Outcomes.{turn_passes, turn_refuses, in_order_first, in_order_last}

@@ -1,3 +1,4 @@
+-- `plan::entries::judge_entries` meets its contract: the goals that the check leaves. What the loop keeps is in Invariants.antt. Assumes nothing.
 use Rattle.std.proofs.Common.{rules}
 use mathlib.Core.Path.{◌∙◌}
 use Rattle.plan.specs.Entries.{entry_tests}

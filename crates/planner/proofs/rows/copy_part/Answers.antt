@@ -1,3 +1,4 @@
+-- `planner::rows::copy_part` meets its contract: the goals that the check leaves. What the loop keeps is in Invariants.antt. Assumes nothing.
 use Prim.Native.Nat.{◌+◌}
 use mathlib.Core.Path.{refl, ◌∙◌}
 use native.Mathlib.Nat.{add-zero, sub-zero}

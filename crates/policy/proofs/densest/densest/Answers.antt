@@ -1,3 +1,4 @@
+-- `policy::densest::densest` meets its contract: the goals that the check leaves. What the loop keeps is in Invariants.antt. Assumes nothing.
 use native.Mathlib.Omega.{arith}
 use mathlib.Core.Path.{refl, ap, ◌∙◌}
 use Rattle.policy.specs.Steps.{led}

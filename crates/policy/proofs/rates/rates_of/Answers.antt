@@ -1,3 +1,4 @@
+-- `policy::rates::rates_of` meets its contract: the goals that the check leaves. What the loop keeps is in Invariants.antt. Assumes nothing.
 use mathlib.Core.Path.{refl, ap}
 use native.Mathlib.Nat.{pos_of_ne-zero}
 use native.Mathlib.Omega.{arith}

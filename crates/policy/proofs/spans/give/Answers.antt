@@ -1,3 +1,4 @@
+-- `policy::spans::give` meets its contract: the goals that the check leaves. What the loop keeps is in Invariants.antt. Assumes nothing.
 use native.Mathlib.Omega.{arith}
 use Rattle.policy.proofs.Filling.{gift, halfway_none, halfway_more}
 use Rattle.policy.proofs.spans.give.Goals as goal

@@ -1,3 +1,4 @@
+-- `policy::spans::passed_by` meets its contract: the goals that the check leaves. What the loop keeps is in Invariants.antt. Assumes nothing.
 use native.Mathlib.Omega.{arith}
 use mathlib.Core.Path.{refl}
 use Rattle.policy.specs.Windows.{sum}

@@ -1,3 +1,4 @@
+-- `timetable::choice::first_found` meets its contract: the goals that the check leaves. What the loop keeps is in Invariants.antt. Assumes nothing.
 use Rattle.timetable.proofs.Choosing.{found_all, found_next}
 use mathlib.Core.Path.{refl}
 use native.Mathlib.Omega.{arith}

@@ -1,3 +1,4 @@
+-- `timetable::made::units_at_first` meets its contract: the goals that the check leaves. What the loop keeps is in Invariants.antt. Assumes nothing.
 use Rattle.std.proofs.Common.{rules}
 use native.Mathlib.Omega.{arith}
 use Rattle.policy.proofs.Filling.{filled_more, filled_none}
