@@ -5,19 +5,12 @@ use mathlib.Core.Path.{◌≡◌, refl, sym, ap, ◌∙◌}
 use native.Mathlib.Omega.{arith}
 use native.Mathlib.Nat.{add-zero, pow-suc}
 use native.Mathlib.Numerals.{add-one}
-use lib.Pow.{shr-shr, high, low, field, mod-mod-pow, mod-pow-add}
+use lib.Pow.{shr-shr, high, mod-pow-add}
+use Rattle.std.proofs.lemmas.Nat.{div-add-mod'}
+use Rattle.std.proofs.lemmas.Nat.Bits.{bit_at_cat_low}
 use Rattle.bits.specs.Field.{digit, spelt}
 
 -- ---- digits
-
--- a digit is 0 or 1
-pub digit_lt : (v k : ℕ) → digit v k < 2
-unfolding digit
-digit_lt v k = omega arith
-
-pub digit_first : (v : ℕ) → digit v 0 ≡ v % 2
-unfolding digit
-digit_first v = omega arith
 
 -- a digit of a number without its last a digits
 pub digit_shift : (v a k : ℕ) → digit (v / 2 ^ a) k ≡ digit v (a + k)
@@ -28,14 +21,12 @@ digit_shift v a k = rw shr-shr
 pub digit_last : (v : ℕ) {a k : ℕ} → k < a → digit (v % 2 ^ a) k ≡ digit v k
 unfolding digit
 digit_last v {a} {k} h =
-    let j : ℕ = a - (1 + k) in
-    let e : a ≡ j + (1 + k) = omega arith in
-    let m : v % 2 ^ a % 2 ^ (1 + k) ≡ v % 2 ^ (1 + k) = rw e (mod-mod-pow v j (1 + k)) in
-    sym (field (v % 2 ^ a) 1 k) ∙ ap (λ (n : ℕ). n / 2 ^ k) m ∙ field v 1 k
+    sym (bit_at_cat_low (v / 2 ^ a) a (v % 2 ^ a) k h) ∙ ap (λ (n : ℕ). n / 2 ^ k % 2) (div-add-mod' v (2 ^ a))
 
 -- the digits of a number put together of two parts
-pub digit_low : (top bottom : ℕ) {a k : ℕ} → bottom < 2 ^ a → k < a → digit (top * 2 ^ a + bottom) k ≡ digit bottom k
-digit_low top bottom {a} {k} fits h = sym (digit_last (top * 2 ^ a + bottom) h) ∙ ap (λ (n : ℕ). digit n k) (low top a fits)
+pub digit_low : (top bottom : ℕ) {a k : ℕ} → k < a → digit (top * 2 ^ a + bottom) k ≡ digit bottom k
+unfolding digit
+digit_low top bottom {a} {k} h = bit_at_cat_low top a bottom k h
 
 pub digit_high : (top bottom a k : ℕ) → bottom < 2 ^ a → digit (top * 2 ^ a + bottom) (a + k) ≡ digit top k
 digit_high top bottom a k fits = sym (digit_shift (top * 2 ^ a + bottom) a k) ∙ ap (λ (n : ℕ). digit n k) (high top a fits)
@@ -61,11 +52,11 @@ module _ (f : ℕ → ℕ) where
 
   -- each digit of it is the bit that stands there
   pub digit_spelt : ((i : ℕ) → f i < 2) → (p w k : ℕ) → k < w → digit (spelt f p w) k ≡ f (p + w - 1 - k)
-  unfolding spelt
+  unfolding spelt digit
   digit_spelt bits p zero k h = elim h [ ]
   digit_spelt bits p (suc w) zero h =
       let e : p + suc w - 1 - 0 ≡ p + w = omega arith in
-      rw e (omega (arith, bits (p + w), digit_first (2 * spelt f p w + f (p + w))))
+      rw e (omega (arith, bits (p + w)))
   digit_spelt bits p (suc w) (suc k) h =
       let e : p + suc w - 1 - suc k ≡ p + w - 1 - k = omega arith in
       let s : suc k ≡ 1 + k = omega arith in
@@ -83,7 +74,7 @@ spelt_same f g p (suc w) same =
 
 -- the last w digits of a number, from the most significant down, spell it again
 pub spelt_digits : (v p w : ℕ) → spelt (λ i. digit v (p + w - 1 - i)) p w ≡ v % 2 ^ w
-unfolding spelt
+unfolding spelt digit
 spelt_digits v p zero = omega arith
 spelt_digits v p (suc w) =
     let above : (i : ℕ) → p ≤ i → i < p + w → digit v (p + suc w - 1 - i) ≡ digit (v / 2 ^ 1) (p + w - 1 - i) =
@@ -92,4 +83,4 @@ spelt_digits v p (suc w) =
     let e : p + suc w - 1 - (p + w) ≡ 0 = omega arith in
     let one : w + 1 ≡ suc w = add-one w in
     let parts : v % 2 ^ (w + 1) ≡ (v / 2 ^ 1 % 2 ^ w) * 2 ^ 1 + v % 2 ^ 1 = mod-pow-add v w 1 in
-    rw e (omega (arith, tops, digit_first v, rw one at parts))
+    rw e (omega (arith, tops, rw one at parts))

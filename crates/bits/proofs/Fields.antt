@@ -9,14 +9,15 @@ use native.Mathlib.Decide.{dec_le}
 use lib.ListN.{length, get_or}
 use lib.Seq.{ext_get_or}
 use borrow.Author.Tests.{le-leb, lt-leb, lt-ltb, le-ltb}
+use Rattle.std.proofs.lemmas.Nat.Bits.{bit_at-lt}
 use Rattle.bits.specs.Field.{digit, bit, spelt, field_at, bytes_from, replaced, put_field, Bytes}
-use Rattle.bits.proofs.Digits.{digit_lt, digit_spelt, spelt_lt, spelt_add, spelt_same, spelt_digits}
+use Rattle.bits.proofs.Digits.{digit_spelt, spelt_lt, spelt_add, spelt_same, spelt_digits}
 
 -- ---- rows of bytes and their bits
 
 pub bit_lt : (bytes : List ℕ) (i : ℕ) → bit bytes i < 2
-unfolding bit
-bit_lt bytes i = digit_lt _ _
+unfolding bit digit
+bit_lt bytes i = bit_at-lt _ _
 
 -- as many bytes as are asked for
 pub length_bytes : (n p : ℕ) (f : ℕ → ℕ) → length (bytes_from n p f) ≡ n
@@ -100,12 +101,13 @@ replaced_behind bytes p w v i h = simp (le-leb p i (omega arith), le-ltb i (p + 
 
 -- a bit is 0 or 1
 replaced_lt : (bytes : List ℕ) (p w v i : ℕ) → replaced bytes p w v i < 2
+unfolding digit
 replaced_lt bytes p w v i = go (dec_le p i) (dec_le (p + w) i)
   where
     go : Dec (p ≤ i) → Dec (p + w ≤ i) → replaced bytes p w v i < 2
     go (no before) d = rw (replaced_before bytes p w v i (omega arith)) (bit_lt bytes i)
     go (yes from) (yes behind) = rw (replaced_behind bytes p w v i behind) (bit_lt bytes i)
-    go (yes from) (no inside) = rw (replaced_inside bytes p w v i from (omega arith)) (digit_lt _ _)
+    go (yes from) (no inside) = rw (replaced_inside bytes p w v i from (omega arith)) (bit_at-lt v (p + w - 1 - i))
 
 pub length_put : (bytes : List ℕ) (p w v : ℕ) → length (put_field bytes p w v) ≡ length bytes
 unfolding put_field

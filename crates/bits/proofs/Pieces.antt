@@ -4,53 +4,40 @@ use Prim.Native.Nat.{ℕ, ◌+◌, ◌-◌, ◌*◌, ◌/◌, ◌%◌, ◌^◌, 
 use mathlib.Core.Path.{◌≡◌, sym, ap, ◌∙◌}
 use mathlib.Core.List.{List}
 use native.Mathlib.Omega.{arith}
-use native.Mathlib.Nat.{mod-lt, mul-le-mul_left, mul-le-mul_right, lt_of_lt_of_le}
+use native.Mathlib.Nat.{mod-lt, mod-eq_of_lt}
 use native.Mathlib.Decide.{dec_le, ℕ_discrete}
 use lib.ListN.{length, get_or, set, length-set}
 use lib.Seq.{get_or-set_same, get_or-set_other}
-use lib.Pow.{pow_pos, pow-add, pow_mono, shr_lt}
-use Rattle.bits.specs.Field.{digit, bit, field_at, spelt, put_field, Bytes}
+use lib.Arith.{digits_lt}
+use lib.Pow.{shr-shr, high, low, pow_pos, pow-add, shr_lt}
+use Rattle.std.proofs.lemmas.Nat.{div-add-mod'}
+use Rattle.bits.specs.Field.{digit, bit, field_at, put_field, Bytes}
 use Rattle.bits.proofs.Digits.{digit_shift, digit_last, digit_low, digit_high, spelt_same, spelt_digits}
-use Rattle.bits.proofs.Fields.{field_add, bit_in_byte, bit_inside, bit_before, bit_behind, length_put, put_bytes, same_bits}
+use Rattle.bits.proofs.Fields.{field_lt, field_add, bit_in_byte, bit_inside, bit_before, bit_behind, length_put, put_bytes, same_bits}
 
 -- ---- reading
 
--- the piece of a field that stands in one byte
-pub field_piece : (bytes : List ℕ) (p k : ℕ) → p % 8 + k ≤ 8 → field_at bytes p k ≡ get_or bytes (p / 8) 0 / 2 ^ (8 - p % 8 - k) % 2 ^ k
+-- the eight bits of byte k spell it
+byte_field : (bytes : List ℕ) (k : ℕ) → get_or bytes k 0 < 256 → field_at bytes (8 * k) 8 ≡ get_or bytes k 0
 unfolding field_at
-field_piece bytes p k one =
-    spelt_same (bit bytes) (λ i. digit (get_or bytes (p / 8) 0 / 2 ^ (8 - p % 8 - k)) (p + k - 1 - i)) p k each
-    ∙ spelt_digits (get_or bytes (p / 8) 0 / 2 ^ (8 - p % 8 - k)) p k
-  where
-    each : (i : ℕ) → p ≤ i → i < p + k → bit bytes i ≡ digit (get_or bytes (p / 8) 0 / 2 ^ (8 - p % 8 - k)) (p + k - 1 - i)
-    each i lo hi =
-        let e : 8 * (p / 8) + 8 - 1 - i ≡ 8 - p % 8 - k + (p + k - 1 - i) = omega arith in
-        bit_in_byte bytes (p / 8) i (omega arith) (omega arith)
-        ∙ ap (digit (get_or bytes (p / 8) 0)) e
-        ∙ sym (digit_shift (get_or bytes (p / 8) 0) (8 - p % 8 - k) (p + k - 1 - i))
+byte_field bytes k small =
+    spelt_same (bit bytes) (λ i. digit (get_or bytes k 0) (8 * k + 8 - 1 - i)) (8 * k) 8 (bit_in_byte bytes k)
+    ∙ spelt_digits (get_or bytes k 0) (8 * k) 8
+    ∙ mod-eq_of_lt small
 
--- A turn of the reader: the value so far, with the next k of the l bits left joined to it, and the bits left after that, spell the same number.
-pub get_turn : (bytes : List ℕ) (p l k value : ℕ) → k ≤ l → p % 8 + k ≤ 8
-    → (value * 2 ^ k + get_or bytes (p / 8) 0 / 2 ^ (8 - p % 8 - k) % 2 ^ k) * 2 ^ (l - k) + field_at bytes (p + k) (l - k)
-    ≡ value * 2 ^ l + field_at bytes p l
-get_turn bytes p l k value le one =
-    let r = l - k in
-    let e : l ≡ k + r = omega arith in
-    let whole : field_at bytes p l ≡ field_at bytes p k * 2 ^ r + field_at bytes (p + k) r = ap (field_at bytes p) e ∙ field_add bytes p k r in
-    let power : 2 ^ l ≡ 2 ^ k * 2 ^ r = ap (λ (n : ℕ). 2 ^ n) e ∙ pow-add 2 k r in
-    rw (← field_piece bytes p k one) (omega (arith, whole, ap (λ (n : ℕ). value * n) power))
+-- A turn of the reader: the bits of n bytes from byte k on, and those of the next byte, spell one number.
+pub get_turn : (bytes : List ℕ) (k n : ℕ) → get_or bytes (k + n) 0 < 256
+    → field_at bytes (8 * k) (8 * n) * 256 + get_or bytes (k + n) 0 ≡ field_at bytes (8 * k) (8 * (n + 1))
+get_turn bytes k n small =
+    let e : 8 * (n + 1) ≡ 8 * n + 8 = omega arith in
+    let q : 8 * k + 8 * n ≡ 8 * (k + n) = omega arith in
+    rw (e, field_add, q, byte_field bytes (k + n) small)
 
--- with no bit left the value is the field
-pub get_last : (bytes : List ℕ) (p left value whole : ℕ) → left ≤ 0 → value * 2 ^ left + field_at bytes p left ≡ whole → value ≡ whole
-unfolding field_at spelt
-get_last bytes p left value whole none e =
-    let z : left ≡ 0 = omega arith in
-    let f = rw z at e in
-    omega arith
-
--- so the value so far never outgrows the whole field
-pub turn_fits : (x r f whole : ℕ) → x * 2 ^ r + f ≡ whole → x ≤ whole
-turn_fits x r f whole e = omega (arith, mul-le-mul_left x (pow_pos r))
+-- the bits within a longer run of bits: without the u behind them and without those before them
+pub field_within : (bytes : List ℕ) (p a w u : ℕ) → field_at bytes p (a + w + u) / 2 ^ u % 2 ^ w ≡ field_at bytes (p + a) w
+field_within bytes p a w u =
+    rw (field_add bytes p (a + w) u, high (field_at bytes p (a + w)) u (field_lt bytes (p + (a + w)) u), field_add bytes p a w)
+    (low (field_at bytes p a) w (field_lt bytes (p + a) w))
 
 -- ---- writing
 
@@ -61,12 +48,12 @@ patched byte a k v = (byte / 2 ^ (a + k) * 2 ^ k + v) * 2 ^ a + byte % 2 ^ a
 module _ (byte a k v : ℕ) (small : v < 2 ^ k) where
   patched_below : (t : ℕ) → t < a → digit (patched byte a k v) t ≡ digit byte t
   patched_below t h =
-      digit_low (byte / 2 ^ (a + k) * 2 ^ k + v) (byte % 2 ^ a) (mod-lt byte (pow_pos a)) h ∙ digit_last byte h
+      digit_low (byte / 2 ^ (a + k) * 2 ^ k + v) (byte % 2 ^ a) h ∙ digit_last byte h
 
   patched_inside : (t : ℕ) → t < k → digit (patched byte a k v) (a + t) ≡ digit v t
   patched_inside t h =
       digit_high (byte / 2 ^ (a + k) * 2 ^ k + v) (byte % 2 ^ a) a t (mod-lt byte (pow_pos a))
-      ∙ digit_low (byte / 2 ^ (a + k)) v small h
+      ∙ digit_low (byte / 2 ^ (a + k)) v h
 
   patched_above : (t : ℕ) → digit (patched byte a k v) (a + (k + t)) ≡ digit byte (a + k + t)
   patched_above t =
@@ -74,25 +61,33 @@ module _ (byte a k v : ℕ) (small : v < 2 ^ k) where
       ∙ digit_high (byte / 2 ^ (a + k)) v k t small
       ∙ digit_shift byte (a + k) t
 
--- a number put together of parts of m and k binary digits has m + k
-pub joined_lt : (x y m k : ℕ) → x < 2 ^ m → y < 2 ^ k → x * 2 ^ k + y < 2 ^ (m + k)
-joined_lt x y m k hx hy =
-    let rows : (x + 1) * 2 ^ k ≤ 2 ^ m * 2 ^ k = mul-le-mul_right (2 ^ k) (omega arith) in
-    rw (pow-add 2 m k) (omega arith)
-
--- and is a byte where that is at most 8 digits
-pub joined_byte : (x y m k : ℕ) → x < 2 ^ m → y < 2 ^ k → m + k ≤ 8 → x * 2 ^ k + y < 256
-joined_byte x y m k hx hy fits = lt_of_lt_of_le (joined_lt x y m k hx hy) (pow_mono fits)
-
--- a byte without its last t bits
-pub top_lt : (byte t : ℕ) → byte < 256 → t ≤ 8 → byte / 2 ^ t < 2 ^ (8 - t)
-top_lt byte t small h = shr_lt (8 - t) t (let e : 8 - t + t ≡ 8 = omega arith in rw e small)
-
 -- a patched byte is a byte
 pub patched_lt : (byte a k v : ℕ) → byte < 256 → a + k ≤ 8 → v < 2 ^ k → patched byte a k v < 256
-patched_lt byte a k v small fits low =
-    let top = joined_lt (byte / 2 ^ (a + k)) v (8 - (a + k)) k (top_lt byte (a + k) small fits) low in
-    joined_byte (byte / 2 ^ (a + k) * 2 ^ k + v) (byte % 2 ^ a) (8 - (a + k) + k) a top (mod-lt byte (pow_pos a)) (omega arith)
+patched_lt byte a k v small fits under =
+    let j = 8 - (a + k) in
+    let eight : j + (a + k) ≡ 8 = omega arith in
+    let parts : j + k + a ≡ 8 = omega arith in
+    let top : byte / 2 ^ (a + k) < 2 ^ j = shr_lt j (a + k) (rw eight small) in
+    let whole : 2 ^ j * 2 ^ k * 2 ^ a ≡ 2 ^ 8 =
+    ap (λ (n : ℕ). n * 2 ^ a) (sym (pow-add 2 j k)) ∙ sym (pow-add 2 (j + k) a) ∙ ap (λ (n : ℕ). 2 ^ n) parts in
+    rw whole at (digits_lt (digits_lt top under) (mod-lt byte (pow_pos a)))
+
+-- with a byte at one index, bytes are bytes
+pub set_bytes : (bytes : List ℕ) (i byte : ℕ) → Bytes bytes → i < length bytes → byte < 256 → Bytes (set bytes i byte)
+set_bytes bytes i byte small within fits j = go (ℕ_discrete j i)
+  where
+    go : Dec (j ≡ i) → get_or (set bytes i byte) j 0 < 256
+    go (yes e) = rw (e, get_or-set_same) fits
+    go (no other) = rw get_or-set_other (small j)
+
+-- a byte is patched by taking out what stands in the piece and putting in the value
+pub patch_piece : (byte a k v : ℕ) → (byte / 2 ^ a % 2 ^ k * 2 ^ a ≤ byte) × (byte - byte / 2 ^ a % 2 ^ k * 2 ^ a + v * 2 ^ a ≡ patched byte a k v)
+patch_piece byte a k v =
+    let upper : byte / 2 ^ (a + k) * 2 ^ k + byte / 2 ^ a % 2 ^ k ≡ byte / 2 ^ a =
+    ap (λ (n : ℕ). n * 2 ^ k + byte / 2 ^ a % 2 ^ k) (sym (shr-shr byte a k)) ∙ div-add-mod' (byte / 2 ^ a) (2 ^ k) in
+    let scaled = ap (λ (n : ℕ). n * 2 ^ a) upper in
+    let whole = div-add-mod' byte (2 ^ a) in
+    (omega arith, omega arith)
 
 -- One byte patched is the piece of a field put.
 module _ (bytes : List ℕ) (p k v : ℕ) (small : Bytes bytes) (one : p % 8 + k ≤ 8) (here : p / 8 < length bytes) where
@@ -105,12 +100,10 @@ module _ (bytes : List ℕ) (p k v : ℕ) (small : Bytes bytes) (one : p % 8 + k
   abbrev pub after : List ℕ
   after = set bytes (p / 8) (patched byte below k (v % 2 ^ k))
 
-  pub after_bytes : Bytes after
-  after_bytes i = go (ℕ_discrete i (p / 8))
-    where
-      go : Dec (i ≡ p / 8) → get_or after i 0 < 256
-      go (yes e) = rw (e, get_or-set_same) (patched_lt byte below k (v % 2 ^ k) (small (p / 8)) (omega arith) (mod-lt v (pow_pos k)))
-      go (no other) = rw get_or-set_other (small i)
+  after_bytes : Bytes after
+  after_bytes =
+      set_bytes bytes (p / 8) (patched byte below k (v % 2 ^ k)) small here
+      (patched_lt byte below k (v % 2 ^ k) (small (p / 8)) (omega arith) (mod-lt v (pow_pos k)))
 
   -- a bit of another byte
   bit_elsewhere : (i : ℕ) → (i / 8 ≡ p / 8 → ⊥) → bit after i ≡ bit bytes i
@@ -205,15 +198,19 @@ put_add bytes p k r v fits = same_bits _ _ (put_bytes first (p + k) r v) (put_by
         let h₂ : i < 8 * length bytes = omega (arith, length_put bytes p k (v / 2 ^ r), h₁) in
         go i h₂ h₁ (dec_le p i) (dec_le (p + k) i) (dec_le (p + k + r) i)
 
--- A turn of the writer: the next k of the l bits left are patched into one byte, and the bits left after that are put behind them.
-pub put_turn : (bytes : List ℕ) (p l k v : ℕ) → Bytes bytes → k ≤ l → p % 8 + k ≤ 8 → p / 8 < length bytes → p + l ≤ 8 * length bytes
-    → put_field (set bytes (p / 8) (patched (get_or bytes (p / 8) 0) (8 - p % 8 - k) k (v / 2 ^ (l - k) % 2 ^ k))) (p + k) (l - k) v
+-- A turn of the writer at byte i: the next k of the l bits left are patched into the byte, and the bits left after that are put behind them.
+pub put_turn : (bytes : List ℕ) (i p l k v : ℕ) → Bytes bytes → k ≤ l → 8 * i ≤ p → p < 8 * i + 8 → p + k ≤ 8 * i + 8 → i < length bytes
+    → p + l ≤ 8 * length bytes
+    → put_field (set bytes i (patched (get_or bytes i 0) (8 - (p - 8 * i) - k) k (v / 2 ^ (l - k) % 2 ^ k))) (p + k) (l - k) v
     ≡ put_field bytes p l v
-put_turn bytes p l k v small le one here fits =
+put_turn bytes i p l k v small le from near one here fits =
+    let a : p - 8 * i ≡ p % 8 = omega arith in
+    let b : i ≡ p / 8 = omega arith in
     let e : k + (l - k) ≡ l = omega arith in
-    ap (λ (s : List ℕ). put_field s (p + k) (l - k) v) (put_piece bytes p k (v / 2 ^ (l - k)) small one here)
+    rw (a, b)
+    (ap (λ (s : List ℕ). put_field s (p + k) (l - k) v) (put_piece bytes p k (v / 2 ^ (l - k)) small (omega arith) (omega arith))
     ∙ put_add bytes p k (l - k) v (omega arith)
-    ∙ ap (λ (n : ℕ). put_field bytes p n v) e
+    ∙ ap (λ (n : ℕ). put_field bytes p n v) e)
 
 -- with no bit left nothing is put
 pub put_last : (bytes : List ℕ) (p left v : ℕ) → Bytes bytes → left ≤ 0 → put_field bytes p left v ≡ bytes

@@ -1,15 +1,17 @@
 -- Turns over the fields of a row and over the rows of a table: what is done so far, and what is still to do, make the whole. Assumes nothing.
-use Prim.Native.Nat.{ℕ, suc, ◌+◌, ◌-◌, ◌*◌, ◌<◌, ◌≤◌}
+use Prim.Native.Nat.{ℕ, zero, suc, ◌+◌, ◌-◌, ◌*◌, ◌<◌, ◌≤◌}
 use mathlib.Core.Path.{◌≡◌, refl, sym, ap, ap₂, ◌∙◌}
-use mathlib.Core.List.{List, [], ◌∷◌, ◌++◌}
+use mathlib.Core.List.{List, [], ◌∷◌, ◌++◌, append-nil, append_assoc}
 use native.Mathlib.Omega.{arith}
 use native.Mathlib.Numerals.{add-one}
-use native.Mathlib.Nat.{add-zero, zero-add, add_assoc}
+use native.Mathlib.Nat.{add-zero, zero-add, add_assoc, mul-le-mul_right}
 use lib.ListN.{length, get_or, take, drop, set, length-append, length-drop, drop_of_length-le, take-append-drop}
-use lib.Seq.{sets, drop-cons, drop-drop, drop_at, length-take-le}
+use lib.Seq.{sets, sets-eq, length-sets, drop-cons, drop-drop, drop_at, length-take-le}
+use Rattle.std.proofs.lemmas.List.{take_rest}
+use borrow.Rule.Slice.PartMut.{mid_of, put_mid}
 use Rattle.bits.specs.Field.{field_at, put_field}
-use Rattle.bits.specs.Table.{total, rows, fields_at, put_fields, unused_bits, field_widths, table_widths, write_table}
-use Rattle.bits.proofs.Tables.{total_append, length_rows, fields_append, length_fields}
+use Rattle.bits.specs.Table.{total, rows, fields_at, put_fields, unused_bits, field_widths, table_widths, write_table, AtMost}
+use Rattle.bits.proofs.Tables.{total_append, total_rows, length_rows, fields_append, length_fields}
 
 -- ---- the fields of a row
 
@@ -18,29 +20,27 @@ pub total_next : (widths : List ℕ) (k : ℕ) → k < length widths → total (
 unfolding total
 total_next widths k h = rw (add-one, drop-cons widths k 0)
 
-pub total_last : (widths : List ℕ) (k : ℕ) → length widths ≤ k → total (drop k widths) ≡ 0
+pub read_next : (bytes out widths : List ℕ) (p k : ℕ) → k < length widths
+    → sets (set out k (field_at bytes p (get_or widths k 0))) (k + 1) (fields_at bytes (p + get_or widths k 0) (drop (k + 1) widths))
+    ≡ sets out k (fields_at bytes p (drop k widths))
+unfolding fields_at
+read_next bytes out widths p k h = rw (add-one, drop-cons widths k 0)
+
+-- what the next width of those that are left says: it is narrow, and the rest has what it leaves
+pub next_width : (widths rest : List ℕ) (w : ℕ) → widths ≡ w ∷ rest → AtMost 64 widths → (w ≤ 64) × (total widths ≡ w + total rest) × AtMost 64 rest
 unfolding total
-total_last widths k h = rw drop_of_length-le
+next_width widths rest w e narrow = (rw e at (narrow 0), rw e, λ i. rw e at (narrow (suc i)))
 
-pub read_next : (bytes out widths : List ℕ) (p to k : ℕ) → k < length widths
-    → sets (set out to (field_at bytes p (get_or widths k 0))) (to + 1) (fields_at bytes (p + get_or widths k 0) (drop (k + 1) widths))
-    ≡ sets out to (fields_at bytes p (drop k widths))
-unfolding fields_at
-read_next bytes out widths p to k h = rw (add-one, add-one, drop-cons widths k 0)
-
-pub read_last : (bytes out widths : List ℕ) (p to k : ℕ) → length widths ≤ k → sets out to (fields_at bytes p (drop k widths)) ≡ out
-unfolding fields_at
-read_last bytes out widths p to k h = rw drop_of_length-le
-
-pub write_next : (bytes widths values : List ℕ) (p from k : ℕ) → k < length widths → from < length values
-    → put_fields (put_field bytes p (get_or widths k 0) (get_or values from 0)) (p + get_or widths k 0) (drop (k + 1) widths) (drop (from + 1) values)
-    ≡ put_fields bytes p (drop k widths) (drop from values)
+pub write_next : (bytes widths values more rest : List ℕ) (p w v : ℕ) → widths ≡ w ∷ more → values ≡ v ∷ rest
+    → put_fields (put_field bytes p w v) (p + w) more rest ≡ put_fields bytes p widths values
 unfolding put_fields
-write_next bytes widths values p from k h v = rw (add-one, add-one, drop-cons widths k 0, drop-cons values from 0)
+write_next bytes widths values more rest p w v e f = rw (e, f)
 
-pub write_last : (bytes widths values : List ℕ) (p from k : ℕ) → length widths ≤ k → put_fields bytes p (drop k widths) (drop from values) ≡ bytes
-unfolding put_fields
-write_last bytes widths values p from k h = rw drop_of_length-le
+-- with no width left nothing is put
+pub write_last : (bytes widths values : List ℕ) (p : ℕ) → length widths ≡ 0 → (total widths ≡ 0) × (put_fields bytes p widths values ≡ bytes)
+unfolding total put_fields
+write_last bytes [] values p none = (refl, refl)
+write_last bytes (w ∷ widths) values p none = absurd (omega arith)
 
 -- ---- the rows of a table
 
@@ -55,42 +55,59 @@ put_append bytes p [] b values h = rw add-zero
 put_append bytes p (w ∷ a) b [] h = absurd (omega arith)
 put_append bytes p (w ∷ a) b (v ∷ values) h = put_append (put_field bytes p w v) (p + w) a b values (omega arith) ∙ rw add_assoc
 
--- one row is the next of the rows that are left
-rows_next : (count row : ℕ) (widths : List ℕ) → row < count → rows (count - row) widths ≡ widths ++ rows (count - (row + 1)) widths
+-- one row more
+rows_more : (row : ℕ) (widths : List ℕ) → rows (row + 1) widths ≡ rows row widths ++ widths
 unfolding rows
-rows_next count row widths h = let e : count - row ≡ suc (count - (row + 1)) = omega arith in rw e
+rows_more zero widths = rw append-nil
+rows_more (suc row) widths =
+    rw add-one (ap (λ (l : List ℕ). widths ++ l) (rw add-one at (rows_more row widths)) ∙ sym (append_assoc widths (rows row widths) widths))
 
-pub rows_last : (count row : ℕ) (widths : List ℕ) → count ≤ row → rows (count - row) widths ≡ []
-unfolding rows
-rows_last count row widths h = let e : count - row ≡ 0 = omega arith in rw e
+-- a row of so many stands within the bits, and within the values, of them all
+pub row_within : (count row : ℕ) (widths : List ℕ) → row < count
+    → (total (rows row widths) + total widths ≤ total (rows count widths)) × ((row + 1) * length widths ≤ count * length widths)
+row_within count row widths h =
+    let more : row + 1 ≤ count = omega arith in
+    (omega (arith, total_rows row widths, total_rows count widths, mul-le-mul_right (total widths) more), mul-le-mul_right (length widths) more)
 
-pub rows_first : (count : ℕ) (widths : List ℕ) → rows (count - 0) widths ≡ rows count widths
-rows_first count widths = let e : count - 0 ≡ count = omega arith in rw e
+-- what is written to the rest of a slice, seen in the whole slice
+sets_rest : (out : List ℕ) (k : ℕ) (values : List ℕ) → k + length values ≤ length out
+    → put_mid k (length out - k) out (sets (mid_of k (length out - k) out) 0 values) ≡ sets out k values
+sets_rest out k values room =
+    let whole : take (length out - k) (drop k out) ≡ drop k out = take_rest out k in
+    let none : drop (length out - k) (drop k out) ≡ [] = drop_of_length-le (drop k out) (omega (arith, length-drop k out)) in
+    let fits : 0 + length values ≤ length (drop k out) = omega (arith, length-drop k out) in
+    rw (whole, none, sets-eq values (drop k out) 0 fits, sets-eq values out k room, append-nil, zero-add, drop-drop)
+    (sym (append_assoc (take k out) values (drop (k + length values) out)))
 
-module _ (count row : ℕ) (widths : List ℕ) (left : row < count) where
-  pub total_rows_next : total (rows (count - row) widths) ≡ total widths + total (rows (count - (row + 1)) widths)
-  total_rows_next = ap total (rows_next count row widths left) ∙ total_append widths (rows (count - (row + 1)) widths)
+module _ (bytes : List ℕ) (at row : ℕ) (widths : List ℕ) where
+  pub total_more : at + total (rows row widths) + total widths ≡ at + total (rows (row + 1) widths)
+  total_more = rw (rows_more, total_append, add_assoc)
 
-  pub length_rows_next : length (rows (count - row) widths) ≡ length widths + length (rows (count - (row + 1)) widths)
-  length_rows_next = ap length (rows_next count row widths left) ∙ length-append widths (rows (count - (row + 1)) widths)
+  -- a row read behind the rows that are read
+  pub read_more : (out : List ℕ) → (row + 1) * length widths ≤ length out
+      → let done = sets out 0 (fields_at bytes at (rows row widths)) in
+      let k = row * length widths in
+      put_mid k (length done - k) done (sets (mid_of k (length done - k) done) 0 (fields_at bytes (at + total (rows row widths)) widths))
+      ≡ sets out 0 (fields_at bytes at (rows (row + 1) widths))
+  read_more out room =
+      let done = sets out 0 (fields_at bytes at (rows row widths)) in
+      let next = fields_at bytes (at + total (rows row widths)) widths in
+      let k : 0 + length (fields_at bytes at (rows row widths)) ≡ row * length widths =
+      omega (arith, length_fields bytes at (rows row widths), length_rows row widths) in
+      let long : row * length widths + length next ≤ length done =
+      omega (arith, length_fields bytes (at + total (rows row widths)) widths, length-sets out 0 (fields_at bytes at (rows row widths))) in
+      sets_rest done (row * length widths) next long
+      ∙ ap (λ (n : ℕ). sets done n next) (sym k)
+      ∙ sym (sets_append out 0 (fields_at bytes at (rows row widths)) next)
+      ∙ ap (sets out 0) (sym (fields_append bytes at (rows row widths) widths) ∙ ap (fields_at bytes at) (sym (rows_more row widths)))
 
-  pub read_rows_next : (bytes out : List ℕ) (p to : ℕ)
-      → sets (sets out to (fields_at bytes p widths)) (to + length widths) (fields_at bytes (p + total widths) (rows (count - (row + 1)) widths))
-      ≡ sets out to (fields_at bytes p (rows (count - row) widths))
-  read_rows_next bytes out p to =
-      ap (λ (n : ℕ). sets (sets out to (fields_at bytes p widths)) (to + n) (fields_at bytes (p + total widths) (rows (count - (row + 1)) widths)))
-      (sym (length_fields bytes p widths))
-      ∙ sym (sets_append out to (fields_at bytes p widths) (fields_at bytes (p + total widths) (rows (count - (row + 1)) widths)))
-      ∙ ap (sets out to) (sym (fields_append bytes p widths (rows (count - (row + 1)) widths)))
-      ∙ ap (λ (w : List ℕ). sets out to (fields_at bytes p w)) (sym (rows_next count row widths left))
-
-  pub write_rows_next : (bytes values : List ℕ) (p from : ℕ) → from + length widths ≤ length values
-      → put_fields (put_fields bytes p widths (drop from values)) (p + total widths) (rows (count - (row + 1)) widths) (drop (from + length widths) values)
-      ≡ put_fields bytes p (rows (count - row) widths) (drop from values)
-  write_rows_next bytes values p from room =
-      ap (put_fields (put_fields bytes p widths (drop from values)) (p + total widths) (rows (count - (row + 1)) widths)) (sym (drop-drop (length widths) from values))
-      ∙ sym (put_append bytes p widths (rows (count - (row + 1)) widths) (drop from values) (omega (arith, length-drop from values)))
-      ∙ ap (λ (w : List ℕ). put_fields bytes p w (drop from values)) (sym (rows_next count row widths left))
+  -- a row written behind the rows that are written
+  pub write_more : (values : List ℕ) → row * length widths ≤ length values
+      → put_fields (put_fields bytes at (rows row widths) values) (at + total (rows row widths)) widths (drop (row * length widths) values)
+      ≡ put_fields bytes at (rows (row + 1) widths) values
+  write_more values room =
+      let k : row * length widths ≡ length (rows row widths) = sym (length_rows row widths) in
+      rw (k, rows_more) (sym (put_append bytes at (rows row widths) widths values (omega arith)))
 
 -- ---- a whole table
 

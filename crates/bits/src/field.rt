@@ -1,25 +1,22 @@
 // One operation reads and one writes a field of bits, most significant bit first, a byte at a time.
 // What a field is is said by specs/Field.antt. Positions and widths are in bits.
-ghost use Rattle.std.specs.Prelude.{◌≡◌, ◌+◌, ◌-◌, ◌*◌, ◌/◌, ◌%◌, ◌^◌, ◌<◌, ◌≤◌, min, length};
+ghost use Rattle.std.specs.Prelude.{◌≡◌, ◌+◌, ◌*◌, ◌/◌, ◌%◌, ◌^◌, ◌<◌, ◌≤◌, length};
 ghost use Rattle.bits.specs.Field.{field_at, put_field};
+
+use crate::table::unused_bits;
 
 // The field of width bits at bit position at.
 pub fn get(bytes: &[u8], at: usize, width: usize) -> u64
     requires { (width ≤ 64) × (at + width ≤ 8 * length bytes.now) × (at + width < 2 ^ 64) }
     ensures { (result ≡ field_at bytes.now at width) × (result < 2 ^ width) }
 {
-    let mut value = 0;
-    let mut position = at;
-    let mut left = width;
-    while 0 < left {
-        let above = position % 8;
-        let taken = least(left, 8 - above);
-        let piece = cut(wide(bytes[position / 8]), 8 - above - taken, taken);
-        value = join(value, piece, taken);
-        position += taken;
-        left -= taken;
+    let end = at + width;
+    // the bytes that the field touches, at most 9, as one number
+    let mut whole = 0u128;
+    for &byte in &bytes[at / 8..end.div_ceil(8)] {
+        whole = (whole << 8) + u128::from(byte);
     }
-    value
+    ((whole >> unused_bits(end)) & ((1u128 << width) - 1)) as u64
 }
 
 // Puts the last width binary digits of value into the field at bit position at; every other bit stays.
@@ -27,15 +24,13 @@ pub fn put(bytes: &mut [u8], at: usize, width: usize, value: u64)
     requires { (width ≤ 64) × (at + width ≤ 8 * length bytes.old) × (at + width < 2 ^ 64) }
     ensures { bytes.new ≡ put_field bytes.old at width value }
 {
-    let mut position = at;
-    let mut left = width;
-    while 0 < left {
-        let above = position % 8;
-        let taken = least(left, 8 - above);
-        left -= taken;
-        let i = position / 8;
+    let end = at + width;
+    for i in at / 8..end.div_ceil(8) {
+        let from = at.max(8 * i);
+        let above = from - 8 * i;
+        let taken = (end - from).min(8 - above);
+        let left = end - from - taken;
         bytes[i] = patch(bytes[i], 8 - above - taken, taken, cut(value, left, taken));
-        position += taken;
     }
 }
 
@@ -44,9 +39,9 @@ fn patch(byte: u8, below: usize, taken: usize, value: u64) -> u8
     requires { (below + taken ≤ 8) × (value < 2 ^ taken) }
     ensures { result ≡ (byte / 2 ^ (below + taken) * 2 ^ taken + value) * 2 ^ below + byte % 2 ^ below }
 {
-    let whole = wide(byte);
-    let top = join(cut(whole, below + taken, 8 - below - taken), value, taken);
-    narrow(join(top, cut(whole, 0, below), below))
+    let whole = u64::from(byte);
+    let old = cut(whole, below, taken);
+    (whole - (old << below) + (value << below)) as u8
 }
 
 // The taken binary digits of value that stand above its last below digits.
@@ -55,34 +50,4 @@ fn cut(value: u64, below: usize, taken: usize) -> u64
     ensures { (result ≡ value / 2 ^ below % 2 ^ taken) × (result < 2 ^ taken) }
 {
     (value >> below) % (1u64 << taken)
-}
-
-// The number whose last width binary digits are low, and whose digits above are high.
-fn join(high: u64, low: u64, width: usize) -> u64
-    requires { (width ≤ 8) × (high * 2 ^ width + low < 2 ^ 64) }
-    ensures { result ≡ high * 2 ^ width + low }
-{
-    (high << width) + low
-}
-
-// The smaller of two numbers of bits.
-fn least(a: usize, b: usize) -> usize
-    ensures { result ≡ min a b }
-{
-    if a < b { a } else { b }
-}
-
-// A byte as a number of 64 bits.
-fn wide(byte: u8) -> u64
-    ensures { (result ≡ byte) × (result < 256) }
-{
-    byte as u64
-}
-
-// A number below 256 as a byte.
-fn narrow(value: u64) -> u8
-    requires { value < 256 }
-    ensures { result ≡ value }
-{
-    value as u8
 }

@@ -3,7 +3,9 @@
 use Prim.Native.Nat.{ℕ, zero, suc, ◌-◌, ◌*◌, ◌/◌, ◌%◌, ◌<◌, ◌≤◌, ◌∣◌}
 use mathlib.Core.Path.{◌≡◌, refl, sym, ap, ◌∙◌}
 use native.Mathlib.Omega.{arith}
-use native.Mathlib.Nat.{mod-lt, dvd-zero, dvd_refl, dvd-mod_iff, mod_def, mul-div-mul_right, mul-sub, mul-pos, zero-mul, pos_of_dvd_of_pos}
+use native.Mathlib.Nat.{mod-lt, mod_def, mul-div-mul_right, mul-sub, mul-pos, zero-mul, pos_of_dvd_of_pos}
+use Rattle.std.specs.Int.{IsGcd}
+use Rattle.std.proofs.lemmas.Nat.Gcd.{IsGcd-from_zero, IsGcd-from_mod}
 use Rattle.fractions.specs.Fraction.{euclid, gcd}
 
 -- turns that are enough give one result
@@ -33,33 +35,23 @@ gcd_turn a (suc b) h =
     let r : a % suc b < suc b = mod-lt a (omega arith) in
     enough b (a % suc b) (suc b) (a % suc b) (omega arith) (omega arith)
 
--- the greatest common divisor divides both
-divides : (turns a b : ℕ) → b ≤ turns → (gcd a b ∣ a) × (gcd a b ∣ b)
-divides zero a zero h = rw gcd_zero (dvd_refl a, dvd-zero a)
-divides zero a (suc b) h = absurd (omega arith)
-divides (suc turns) a zero h = rw gcd_zero (dvd_refl a, dvd-zero a)
-divides (suc turns) a (suc b) h =
+-- what std calls the greatest common divisor: it divides both, and every common divisor divides it
+is_gcd : (turns a b : ℕ) → b ≤ turns → IsGcd a b (gcd a b)
+is_gcd turns a zero h = rw gcd_zero (IsGcd-from_zero a 0 refl)
+is_gcd zero a (suc b) h = absurd (omega arith)
+is_gcd (suc turns) a (suc b) h =
     let r : a % suc b < suc b = mod-lt a (omega arith) in
-    let t : (gcd (suc b) (a % suc b) ∣ suc b) × (gcd (suc b) (a % suc b) ∣ a % suc b) = divides turns (suc b) (a % suc b) (omega arith) in
-    rw (gcd_turn a (suc b) (omega arith)) ((dvd-mod_iff _ t.0).0 t.1, t.0)
+    rw (gcd_turn a (suc b) (omega arith)) (IsGcd-from_mod a (suc b) _ (is_gcd turns (suc b) (a % suc b) (omega arith)))
 
 pub gcd_left : (a b : ℕ) → gcd a b ∣ a
-gcd_left a b = (divides b a b (omega arith)).0
+gcd_left a b = (is_gcd b a b (omega arith)).0
 
 pub gcd_right : (a b : ℕ) → gcd a b ∣ b
-gcd_right a b = (divides b a b (omega arith)).1
-
-greatest : (turns c a b : ℕ) → b ≤ turns → c ∣ a → c ∣ b → c ∣ gcd a b
-greatest zero c a zero h p q = rw gcd_zero p
-greatest zero c a (suc b) h p q = absurd (omega arith)
-greatest (suc turns) c a zero h p q = rw gcd_zero p
-greatest (suc turns) c a (suc b) h p q =
-    let r : a % suc b < suc b = mod-lt a (omega arith) in
-    rw (gcd_turn a (suc b) (omega arith)) (greatest turns c (suc b) (a % suc b) (omega arith) q ((dvd-mod_iff c q).1 p))
+gcd_right a b = (is_gcd b a b (omega arith)).1
 
 -- every common divisor divides the greatest
 pub gcd_greatest : (c a b : ℕ) → c ∣ a → c ∣ b → c ∣ gcd a b
-gcd_greatest c a b = greatest b c a b (omega arith)
+gcd_greatest c a b = (is_gcd b a b (omega arith)).2 c
 
 pub gcd_positive : (a b : ℕ) → 0 < b → 0 < gcd a b
 gcd_positive a b h = pos_of_dvd_of_pos (gcd_right a b) h

@@ -6,13 +6,14 @@ ghost use Rattle.std.specs.Prelude.{◌≡◌, ◌*◌, ◌<◌, ◌^◌};
 ghost use Rattle.fractions.specs.Fraction.{gcd, lowest_n, lowest_d};
 
 // A rate N/D in bytes per second, in lowest terms.
-#[derive(Clone, Copy)]
+#[derive(Clone, Copy, PartialEq, Eq, Debug)]
 pub struct Rate {
     pub n: u64,
     pub d: u64,
 }
 
 // Load (bytes) over length (seconds) in lowest terms.
+#[tactic(auto, using(crate::proofs::Euclid::gcd_positive))]
 pub fn lowest(load: u64, length: u64) -> Rate
     requires { 0 < length }
     ensures { (result.n ≡ lowest_n load length) × (result.d ≡ lowest_d load length) }
@@ -25,6 +26,8 @@ pub fn lowest(load: u64, length: u64) -> Rate
 }
 
 // The greatest common divisor by Euclid's rule: that of a and b is that of b and what a leaves over b, and beside 0 it is a.
+// It calls itself, since docs/DECISIONS.md asks for that form here ("A form for each place").
+#[tactic(auto, using(crate::proofs::Euclid::gcd_zero, crate::proofs::Euclid::gcd_turn))]
 pub fn greatest_divisor(a: u64, b: u64) -> u64
     ensures { result ≡ gcd a b }
 {

@@ -1,41 +1,22 @@
 -- `bits::table::read_row` meets its contract: the goals that the check leaves. What the loop keeps is in Invariants.antt. Assumes nothing.
-use Prim.Native.Nat.{◌+◌}
-use mathlib.Core.Path.{◌≡◌, sym, ◌∙◌}
+use mathlib.Core.Path.{◌∙◌}
 use native.Mathlib.Omega.{arith}
-use lib.ListN.{get_or, drop, length-set}
-use Rattle.bits.specs.Table.{total}
-use Rattle.bits.proofs.Rows.{total_next, total_last, read_next, read_last}
+use lib.ListN.{drop_of_length-le}
+use Rattle.bits.specs.Table.{total, fields_at}
+use Rattle.bits.proofs.Rows.{total_next, read_next}
 use Rattle.bits.proofs.table.read_row.Goals as goal
-use Rattle.bits.proofs.table.read_row.Goals.{In-loop-field}
-
--- the next field's width and what is left behind it
-more : (c : In-loop-field)
-    → let w = c.args.widths.now in
-    total (drop c.loop-field.field w) ≡ get_or w c.loop-field.field 0 + total (drop (c.loop-field.field + 1) w)
-more c = total_next _ c.loop-field.field c.loop-field-test.true
-
-pub get-requires : goal.get-requires
-get-requires c =
-    let narrow = c.requires.narrow c.loop-field.field in
-    let rest = more (goal.at.get-requires c).In-loop-field in
-    (narrow, omega arith, omega arith)
-
-pub overflow_add-position : goal.overflow_add-position
-overflow_add-position c = omega (arith, more (goal.at.overflow_add-position c).In-loop-field)
 
 pub loop-field-preserved : goal.loop-field-preserved
 loop-field-preserved c =
     let l = c.loop-field in
     let w = c.args.widths.now in (
-      omega arith,
-      omega (arith, more (goal.at.loop-field-preserved c).In-loop-field),
-      omega arith,
-      simp length-set l.invariant.3,
-      rw c.get.ensures.0 (read_next _ l.out w l.position l.next l.field c.loop-field-test.true ∙ l.invariant.4),
+      omega (arith, total_next w l.field c.loop-field-test.true),
+      rw c.get.ensures.0 (read_next _ l.out w l.position l.field c.loop-field-test.true ∙ l.invariant.1),
     )
 
 pub returns : goal.returns
+unfolding total fields_at
 returns c =
     let l = c.loop-field in
-    let none = total_last c.args.widths.now l.field c.loop-field-test.false in
-    (omega arith, sym (read_last _ l.out _ l.position l.next l.field c.loop-field-test.false) ∙ l.invariant.4)
+    let none = drop_of_length-le c.args.widths.now c.loop-field-test.false in
+    (omega (arith, rw none at l.invariant.0), rw none at l.invariant.1)
