@@ -1,21 +1,17 @@
 -- Each promise admits one answer only, and a refusal leaves what was lent as it was. An answer is known by its number and values, since `decoded` gives it back from them; what is left in a lent
 -- buffer is stated as an equation. Assumes nothing.
 use Prim.Native.Nat.{ℕ}
-use mathlib.Core.Path.{◌≡◌, refl, sym, ap, ◌∙◌}
+use mathlib.Core.Path.{◌≡◌, refl, sym, ap, ap₂, ◌∙◌}
 use native.Mathlib.Omega.{arith}
-use mathlib.Core.List.{List, []}
+use mathlib.Core.List.{List}
 use mathlib.Core.Bool.{Bool, true, false}
 use lib.Dec.{eqb}
 use lib.ListN.{length}
+use Rattle.std.specs.Prelude.{Result, Ok, Err}
 use Rattle.packets.specs.declared.refusal.Refusal.{Refusal}
 use Rattle.packets.specs.declared.refusal.Refusal.TheVariants.{Short, NoPackets, TooManyPackets, Size, Deadline, Arrival, UnusedBit, NoRoom, EntryCount, Entry, Cost}
-use Rattle.packets.specs.declared.judge.Verdict.{Verdict}
-use Rattle.packets.specs.declared.judge.Verdict.TheVariants as verdict
-use Rattle.packets.specs.declared.list.ListAnswer.{ListAnswer}
-use Rattle.packets.specs.declared.list.ListAnswer.TheVariants as list_answer
-use Rattle.packets.specs.declared.list.WrittenAnswer.{WrittenAnswer}
-use Rattle.packets.specs.declared.list.WrittenAnswer.TheVariants as written_answer
-use Rattle.packets.specs.Outcome.{Outcome, gives, refuses, refusal_of, verdict_of, list_answer_of, written_answer_of}
+use Rattle.packets.specs.declared.list.ListSize.{ListSize}
+use Rattle.packets.specs.Outcome.{Outcome, gives, refuses, refusal_of, answer_of, no_values, verdict_of, list_answer_of, written_answer_of}
 use Rattle.packets.specs.Records.{memory_tests}
 use Rattle.packets.specs.List.{read_outcome, records_after, rest_after, bytes_after, ListJudged, ListRead, ListWritten}
 use Rattle.packets.proofs.Outcomes.{refused_leaves}
@@ -70,37 +66,36 @@ refusal_gives refusal values e =
 
 -- ---- answers
 
-pub verdict_one : (a b : Verdict) → verdict_of a ≡ verdict_of b → a ≡ b
-verdict_one verdict.Passed verdict.Passed e = refl
-verdict_one verdict.Passed (verdict.Refused s) e = refusal_gives s [] (sym e)
-verdict_one (verdict.Refused r) verdict.Passed e = refusal_gives r [] e
-verdict_one (verdict.Refused r) (verdict.Refused s) e = ap verdict.Refused (refusal_one r s e)
+-- two answers that come to the same are one, where the values tell what is given apart
+pub answer_one : {T : Type 0} (values : T → List ℕ) → ((a b : T) → values a ≡ values b → a ≡ b)
+    → (a b : Result T Refusal) → answer_of values a ≡ answer_of values b → a ≡ b
+answer_one values one (Ok x) (Ok y) e = let f : values x ≡ values y = cc in ap Ok (one x y f)
+answer_one values one (Ok x) (Err s) e = refusal_gives s _ (sym e)
+answer_one values one (Err r) (Ok y) e = refusal_gives r _ e
+answer_one values one (Err r) (Err s) e = ap Err (refusal_one r s e)
 
-pub list_answer_one : (a b : ListAnswer) → list_answer_of a ≡ list_answer_of b → a ≡ b
-list_answer_one (list_answer.Packets n u) (list_answer.Packets m w) e = let f : n ≡ m = cc in let g : u ≡ w = cc in cc
-list_answer_one (list_answer.Packets n u) (list_answer.Refused s) e = refusal_gives s _ (sym e)
-list_answer_one (list_answer.Refused r) (list_answer.Packets m w) e = refusal_gives r _ e
-list_answer_one (list_answer.Refused r) (list_answer.Refused s) e = ap list_answer.Refused (refusal_one r s e)
+pub verdict_one : (a b : Result (Unit {0}) Refusal) → verdict_of a ≡ verdict_of b → a ≡ b
+verdict_one = answer_one no_values (λ a b e. refl)
 
-pub written_answer_one : (a b : WrittenAnswer) → written_answer_of a ≡ written_answer_of b → a ≡ b
-written_answer_one (written_answer.Written n) (written_answer.Written m) e = let f : n ≡ m = cc in cc
-written_answer_one (written_answer.Written n) (written_answer.Refused s) e = refusal_gives s _ (sym e)
-written_answer_one (written_answer.Refused r) (written_answer.Written m) e = refusal_gives r _ e
-written_answer_one (written_answer.Refused r) (written_answer.Refused s) e = ap written_answer.Refused (refusal_one r s e)
+pub list_answer_one : (a b : Result ListSize Refusal) → list_answer_of a ≡ list_answer_of b → a ≡ b
+list_answer_one = answer_one _ (λ (a : ListSize) (b : ListSize) e. let f : a.count ≡ b.count = cc in let g : a.bytes ≡ b.bytes = cc in ap₂ (λ (count : ℕ) (bytes : ℕ). record { count = count; bytes = bytes }) f g)
+
+pub written_answer_one : (a b : Result ℕ Refusal) → written_answer_of a ≡ written_answer_of b → a ≡ b
+written_answer_one = answer_one _ (λ a b e. cc)
 
 -- ---- promises: each admits one answer, one part handed back and one content of each lent buffer
 
-pub judged_once : (count : ℕ) (records : List ℕ) (a b : Verdict) → verdict_of a ≡ memory_tests count records → verdict_of b ≡ memory_tests count records → a ≡ b
+pub judged_once : (count : ℕ) (records : List ℕ) (a b : Result (Unit {0}) Refusal) → verdict_of a ≡ memory_tests count records → verdict_of b ≡ memory_tests count records → a ≡ b
 judged_once count records a b p q = verdict_one a b (p ∙ sym q)
 
-pub list_judged_once : (bytes : List ℕ) (room : ℕ) (a b : ListAnswer) → ListJudged bytes room a → ListJudged bytes room b → a ≡ b
+pub list_judged_once : (bytes : List ℕ) (room : ℕ) (a b : Result ListSize Refusal) → ListJudged bytes room a → ListJudged bytes room b → a ≡ b
 list_judged_once bytes room a b p q = list_answer_one a b (p ∙ sym q)
 
 pub list_read_once : (bytes lent : List ℕ) (rest rest' after after' : List ℕ) → ListRead bytes lent rest after → ListRead bytes lent rest' after'
     → (rest ≡ rest') × (after ≡ after')
 list_read_once bytes lent rest rest' after after' p q = (p.0 ∙ sym q.0, p.1 ∙ sym q.1)
 
-pub list_written_once : (count : ℕ) (records lent : List ℕ) (a b : WrittenAnswer) (after after' : List ℕ)
+pub list_written_once : (count : ℕ) (records lent : List ℕ) (a b : Result ℕ Refusal) (after after' : List ℕ)
     → ListWritten count records lent a after → ListWritten count records lent b after' → (a ≡ b) × (after ≡ after')
 list_written_once count records lent a b after after' p q = (written_answer_one a b (p.0 ∙ sym q.0), p.1 ∙ sym q.1)
 
@@ -111,6 +106,6 @@ pub list_read_undone : (bytes lent rest after : List ℕ) (refusal : Refusal) �
 unfolding rest_after records_after
 list_read_undone bytes lent rest after refusal e p = (p.0 ∙ refused_leaves refusal _ bytes e, p.1 ∙ refused_leaves refusal _ lent e)
 
-pub list_written_undone : (count : ℕ) (records lent after : List ℕ) (refusal : Refusal) → ListWritten count records lent (written_answer.Refused refusal) after → after ≡ lent
+pub list_written_undone : (count : ℕ) (records lent after : List ℕ) (refusal : Refusal) → ListWritten count records lent (Err refusal) after → after ≡ lent
 unfolding bytes_after
 list_written_undone count records lent after refusal p = p.1 ∙ refused_leaves refusal _ lent p.0

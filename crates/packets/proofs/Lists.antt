@@ -1,22 +1,23 @@
 -- Laws of the list on the wire: the bits that it takes, and what an answer that gives values tells. Assumes nothing.
 use Prim.Native.Nat.{ℕ, zero, suc, ◌+◌, ◌-◌, ◌*◌, ◌/◌, ◌≤◌}
-use mathlib.Core.Path.{◌≡◌, refl, sym, ap, ap₂, ◌∙◌}
+use mathlib.Core.Path.{◌≡◌, refl, sym, ap, ◌∙◌}
 use mathlib.Core.List.{List, [], ◌∷◌, ◌++◌}
 use native.Mathlib.Omega.{arith}
 use lib.ListN.{length, take, drop, length-drop}
 use lib.Seq.{sets, take_all}
-use lib.Dec.{ltb}
-use borrow.Author.Tests.{ltb-false, le-ltb}
+use borrow.Author.Tests.{le-ltb}
 use Rattle.bits.specs.Table.{total, rows, fields_at, field_widths, table_bytes, write_table, AtMost}
 use Rattle.bits.proofs.Tables.{total_rows, length_rows, length_fields}
 use Rattle.packets.specs.Limits.{most_packets}
 use Rattle.packets.specs.Outcome.{Outcome, gives, refuses, ◌when◌else◌, ◌then◌, refusal_of}
 use Rattle.packets.specs.Records.{record_numbers, record_tests, memory_tests, Accepted}
+use Rattle.packets.specs.Forms.{list_form}
+use Rattle.packets.specs.Wire.{table_outcome}
 use Rattle.packets.specs.List.{count_width, record_widths, list_bytes, count_on, records_on, wire_tests, room_test, read_outcome, records_after, rest_after, write_outcome, bytes_after}
 use Rattle.packets.specs.declared.refusal.Refusal.{Refusal}
-use Rattle.packets.proofs.Outcomes.{when_gives, then_gives, given_leaves, has_room}
-use Rattle.packets.proofs.Wire.{Whole, wire_whole, stored_given}
-use Rattle.packets.proofs.Records.{tests_pass, records_sound}
+use Rattle.packets.proofs.Outcomes.{then_gives, given_leaves, has_room}
+use Rattle.packets.proofs.Wire.{table_readable, Whole, wire_whole, stored_given}
+use Rattle.packets.proofs.Records.{records_sound}
 
 -- ---- the bits of a list
 
@@ -43,12 +44,6 @@ pub count_narrow : AtMost 64 (count_width ∷ [])
 count_narrow zero = omega arith
 count_narrow (suc i) = omega arith
 
-pub record_narrow : AtMost 64 record_widths
-record_narrow zero = omega arith
-record_narrow (suc zero) = omega arith
-record_narrow (suc (suc zero)) = omega arith
-record_narrow (suc (suc (suc i))) = omega arith
-
 -- three numbers for each record
 pub length_records : (bytes : List ℕ) (count : ℕ) → length (fields_at bytes count_width (rows count record_widths)) ≡ record_numbers * count
 length_records bytes count = length_fields bytes count_width (rows count record_widths) ∙ length_rows count record_widths ∙ omega arith
@@ -64,9 +59,10 @@ records_read : (bytes : List ℕ) (count : ℕ) → count ≡ count_on bytes →
 unfolding records_on
 records_read bytes count e = rw e
 
-pub records_are : (bytes : List ℕ) (count : ℕ) → count ≡ count_on bytes
-    → record_tests count 0 (fields_at bytes count_width (rows count record_widths)) ≡ record_tests (count_on bytes) 0 (records_on bytes)
-records_are bytes count e = ap₂ (λ (n : ℕ) (l : List ℕ). record_tests n 0 l) e (records_read bytes count e)
+-- reading a list is reading a table of its form
+pub list_outcome : (bytes : List ℕ) (room : ℕ) → read_outcome bytes room ≡ table_outcome list_form bytes room (count_on bytes ∷ list_bytes (count_on bytes) ∷ [])
+unfolding read_outcome room_test record_tests records_on table_outcome total
+list_outcome bytes room = refl
 
 -- ---- what an answer that gives values tells
 
@@ -78,17 +74,10 @@ pub record Readable (bytes : List ℕ) (room : ℕ) (values : List ℕ) : Type 0
   pub told : values ≡ count_on bytes ∷ list_bytes (count_on bytes) ∷ []
 
 pub read_readable : (bytes : List ℕ) (room : ℕ) (values : List ℕ) → read_outcome bytes room ≡ gives values → Readable bytes room values
-unfolding read_outcome room_test
+unfolding record_tests records_on total
 read_readable bytes room values h =
-    let a = then_gives (wire_tests bytes) _ h in
-    let b = then_gives (record_tests (count_on bytes) 0 (records_on bytes)) _ a.2 in
-    let d = when_gives 8 0 (ltb room (record_numbers * count_on bytes)) refl b.2 in
-    record {
-      whole = (wire_whole _ _ _ _ _ _ bytes a.0 a.1).1;
-      sound = tests_pass (count_on bytes) 0 (records_on bytes) b.0 b.1;
-      held = ltb-false _ _ d.0;
-      told = let e : gives (count_on bytes ∷ list_bytes (count_on bytes) ∷ []) ≡ gives values = d.1 in cc;
-    }
+    let r = table_readable list_form bytes room _ values (sym (list_outcome bytes room) ∙ h) in
+    record { whole = r.1.whole; sound = r.1.sound; held = r.1.held; told = r.0 }
 
 -- the numbers of such an answer, and the bounds that they meet
 pub record Told (bytes : List ℕ) (room count used : ℕ) : Type 0 where

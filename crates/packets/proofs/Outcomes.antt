@@ -9,11 +9,9 @@ use native.Mathlib.Numerals.{add-one}
 use native.Mathlib.Decide.{dec_le}
 use lib.Dec.{ltb}
 use borrow.Author.Tests.{lt-ltb, le-ltb}
-use Rattle.packets.specs.Outcome.{Outcome, gives, refuses, ◌when◌else◌, ◌then◌, ◌given◌else◌, in_order, refusal_of, verdict_of}
+use Rattle.packets.specs.Outcome.{Outcome, gives, refuses, ◌when◌else◌, ◌then◌, ◌given◌else◌, in_order, number_of, place_of, refusal_of}
 use Rattle.packets.specs.declared.refusal.Refusal.{Refusal}
 use Rattle.packets.specs.declared.refusal.Refusal.TheVariants.{NoRoom}
-use Rattle.packets.specs.declared.judge.Verdict.{Verdict}
-use Rattle.packets.specs.declared.judge.Verdict.TheVariants.{Passed, Refused}
 
 -- ---- one test after another
 
@@ -71,13 +69,18 @@ pub has_room : {tests : Outcome} (values : List ℕ) (need room : ℕ) → gives
 unfolding ◌when◌else◌
 has_room values need room e held = rw (passed_then _ e) (simp (le-ltb _ _ held))
 
--- ---- what a verdict tells
+-- a refusal that has no place is told by its number
+pub placeless : (refusal named : Refusal) → refusal ≡ named → place_of named ≡ 0 → refusal_of refusal ≡ refuses (number_of named) 0
+placeless refusal named same none = rw (same, none)
 
-pub verdict_refuses : {verdict : Verdict} {refusal : Refusal} {tests : Outcome} → verdict ≡ Refused refusal → verdict_of verdict ≡ tests → refusal_of refusal ≡ tests
-verdict_refuses v e = sym (ap verdict_of v) ∙ e
-
-pub verdict_passes : {verdict : Verdict} {tests : Outcome} → verdict ≡ Passed → verdict_of verdict ≡ tests → gives [] ≡ tests
-verdict_passes v e = sym (ap verdict_of v) ∙ e
+-- what comes after three tests stands behind the last of them
+pub three_then : (n p m q k r : ℕ) (a b d : Bool) (next : Outcome)
+    → (refuses n p when a else refuses m q when b else refuses k r when d else next) ≡ ((refuses n p when a else refuses m q when b else refuses k r when d else gives []) then next)
+unfolding ◌when◌else◌ ◌then◌
+three_then n p m q k r true b d next = refl
+three_then n p m q k r false true d next = refl
+three_then n p m q k r false false true next = refl
+three_then n p m q k r false false false next = refl
 
 -- ---- tests in order
 
@@ -99,11 +102,11 @@ in_order_last test count i h all = let e : count - i ≡ 0 = omega arith in rw e
 
 -- One turn over tests in order: those from number i on come to what all come to.
 module _ (test : ℕ → Outcome) (count i : ℕ) (within : i < count) (all : in_order test (count - i) i ≡ in_order test count 0) where
-  pub turn_passes : {verdict : Verdict} → verdict ≡ Passed → verdict_of verdict ≡ test i → in_order test (count - (i + 1)) (i + 1) ≡ in_order test count 0
-  turn_passes v e = sym (passed_then _ (verdict_passes v e)) ∙ sym (in_order_next test count i within) ∙ all
+  pub turn_passes : gives [] ≡ test i → in_order test (count - (i + 1)) (i + 1) ≡ in_order test count 0
+  turn_passes e = sym (passed_then _ e) ∙ sym (in_order_next test count i within) ∙ all
 
-  pub turn_refuses : {verdict : Verdict} {refusal : Refusal} → verdict ≡ Refused refusal → verdict_of verdict ≡ test i → refusal_of refusal ≡ in_order test count 0
-  turn_refuses {verdict} {refusal} v e = sym (refused_then refusal _ (verdict_refuses v e)) ∙ sym (in_order_next test count i within) ∙ all
+  pub turn_refuses : (refusal : Refusal) → refusal_of refusal ≡ test i → refusal_of refusal ≡ in_order test count 0
+  turn_refuses refusal e = sym (refused_then refusal _ e) ∙ sym (in_order_next test count i within) ∙ all
 
 -- tests that agree come to the same
 pub in_order_same : (f g : ℕ → Outcome) (n i : ℕ) → ((k : ℕ) → i ≤ k → k < i + n → f k ≡ g k) → in_order f n i ≡ in_order g n i

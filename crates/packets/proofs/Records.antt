@@ -3,7 +3,6 @@ use Prim.Native.Nat.{ℕ, ◌+◌, ◌*◌, ◌<◌, ◌≤◌}
 use mathlib.Core.Path.{◌≡◌, refl}
 use mathlib.Core.List.{List, [], ◌++◌}
 use native.Mathlib.Omega.{arith}
-use native.Mathlib.Nat.{add-zero}
 use lib.ListN.{length, get_or, take}
 use lib.Seq.{sets}
 use lib.Dec.{eqb, ltb, leb}
@@ -11,6 +10,7 @@ use borrow.Author.Tests.{eqb-false, ltb-false, leb-false, ne_eqb, le-ltb, lt-leb
 use Rattle.packets.specs.Limits.{most_packets, largest_size, last_second}
 use Rattle.packets.specs.Outcome.{gives, ◌when◌else◌}
 use Rattle.packets.specs.Records.{size_of, arrival_of, deadline_of, record_test, record_at, record_tests, memory_tests, record_numbers, Sound, Accepted}
+use Rattle.packets.specs.Forms.{record_own}
 use Rattle.packets.proofs.Outcomes.{when_gives, in_order_pass, in_order_each, in_order_none}
 use Rattle.packets.proofs.Wire.{rows_same, rows_past, rows_stored, rows_first}
 
@@ -78,11 +78,6 @@ accepted_memory count records a =
     (sound_records count 0 records (λ k low high. a.sound k (omega arith)))
 
 -- ---- what the tests look at
-
--- the test of a record looks at its own numbers
-record_own : (a b : List ℕ) (i : ℕ) → ((j : ℕ) → j < record_numbers → get_or a (record_numbers * i + j) 0 ≡ get_or b (record_numbers * i + j) 0) → record_at a i ≡ record_at b i
-unfolding record_at size_of arrival_of deadline_of
-record_own a b i same = rw (rw add-zero at (same 0 (omega arith)), same 1 (omega arith), same 2 (omega arith))
 
 -- records that agree as far as the tests look come to the same
 pub tests_same : (n i : ℕ) (a b : List ℕ) → ((k : ℕ) → k < record_numbers * (i + n) → get_or a k 0 ≡ get_or b k 0) → record_tests n i a ≡ record_tests n i b

@@ -1,7 +1,7 @@
 -- Laws of a table on the wire, for any widths: what passing the tests of its bytes tells, that a table which is written passes them, and that what stands
 -- behind a table has no influence; then those of its rows: where they fit, and how far their tests look. A list and a plan are two instances. All stand on the table laws of the bits layer. Assumes nothing.
 use Prim.Native.Nat.{ℕ, zero, suc, ◌+◌, ◌*◌, ◌<◌, ◌≤◌, ◌^◌}
-use mathlib.Core.Path.{◌≡◌, refl, sym, ap, subst, ◌∙◌}
+use mathlib.Core.Path.{◌≡◌, refl, sym, ap, ap₂, subst, ◌∙◌}
 use mathlib.Core.List.{List, [], ◌∷◌, ◌++◌}
 use native.Mathlib.Omega.{arith}
 use native.Mathlib.Nat.{zero-add, mul-le-mul_left}
@@ -10,10 +10,10 @@ use lib.Seq.{sets, sets-eq, get_or-take, get_or-drop, length-take-le}
 use lib.Dec.{eqb, ltb}
 use borrow.Author.Tests.{eqb-false, ltb-false, eq-eqb, ne_eqb, lt-ltb, le-ltb}
 use Rattle.bits.specs.Table.{total, rows, fields_at, field_widths, table_bytes, read_table, unused_at, write_table, Fit}
-use Rattle.bits.proofs.Tables.{write_read, length_write, read_front}
-use Rattle.packets.specs.Outcome.{Outcome, gives, refuses, ◌when◌else◌, ◌given◌else◌, in_order}
-use Rattle.packets.specs.Wire.{count_at, table_tests}
-use Rattle.packets.proofs.Outcomes.{when_gives, given_leaves, in_order_same}
+use Rattle.bits.proofs.Tables.{total_append, total_rows, length_rows, length_fields, write_read, length_write, read_front}
+use Rattle.packets.specs.Outcome.{Outcome, gives, refuses, ◌when◌else◌, ◌then◌, ◌given◌else◌, in_order, number_of}
+use Rattle.packets.specs.Wire.{Form, head_of, rows_on, numbers_on, count_at, count_tests, table_tests, table_outcome}
+use Rattle.packets.proofs.Outcomes.{when_gives, then_gives, three_then, given_leaves, in_order_same, in_order_none}
 
 -- ---- what passing tells
 
@@ -186,3 +186,67 @@ module _ (size : ℕ) (test : List ℕ → ℕ → Outcome)
   rows_first count values held =
       sym (rows_past count (take (size * count) values) (drop (size * count) values) (omega (arith, length-take-le (size * count) values held)))
       ∙ ap (λ (l : List ℕ). in_order (test l) count 0) (take-append-drop (size * count) values)
+
+-- ---- the bits of a table
+
+-- a table's bits are those of its head and those of its rows
+pub parts_total : (head row : List ℕ) (n : ℕ) → total (field_widths head row n) ≡ total head + total row * n
+unfolding field_widths
+parts_total head row n = total_append head (rows n row) ∙ rw total_rows (omega arith)
+
+-- the tests of rows that were read to the front of a buffer are those of the rows on the wire
+pub rows_read : (head row : List ℕ) (test : List ℕ → ℕ → Outcome)
+    → ((a b : List ℕ) (i : ℕ) → ((j : ℕ) → j < length row → get_or a (length row * i + j) 0 ≡ get_or b (length row * i + j) 0) → test a i ≡ test b i)
+    → (bytes buffer : List ℕ) (count at : ℕ) → count ≡ count_at bytes head → at ≡ total head → length row * count ≤ length buffer
+    → in_order (test (sets buffer 0 (fields_at bytes at (rows count row)))) count 0
+    ≡ in_order (test (fields_at bytes (total head) (rows (count_at bytes head) row))) (count_at bytes head) 0
+rows_read head row test own bytes buffer count at n h held =
+    let long : length (fields_at bytes at (rows count row)) ≡ length row * count = length_fields bytes at (rows count row) ∙ length_rows count row ∙ omega arith in
+    rows_stored (length row) test own count buffer (fields_at bytes at (rows count row)) (omega arith) (omega arith)
+    ∙ ap₂ (λ (m : ℕ) (l : List ℕ). in_order (test l) m 0) n (rw (n, h))
+
+-- the head and the rows of a whole table lie inside the bytes
+pub whole_bits : (head row : List ℕ) (most : ℕ) (bytes : List ℕ) (count : ℕ) → Whole head row most bytes → count ≡ count_at bytes head
+    → total head + total (rows count row) ≤ 8 * length bytes
+unfolding table_bytes field_widths
+whole_bits head row most bytes count whole n =
+    let held = rw (← n) at whole.held in
+    let bits = total_append head (rows count row) in
+    omega arith
+
+-- ---- what an outcome that gives values tells
+
+-- a table that is read: whole, its rows pass, and there is room for them
+pub record Readable (form : Form) (bytes : List ℕ) (room : ℕ) : Type 0 where
+  pub whole : Whole (head_of form) form.row form.most bytes
+  pub sound : in_order (form.row_test (numbers_on form bytes)) (rows_on form bytes) 0 ≡ gives []
+  pub held : length form.row * rows_on form bytes ≤ room
+
+pub table_readable : (form : Form) (bytes : List ℕ) (room : ℕ) (values own : List ℕ) → table_outcome form bytes room values ≡ gives own → (own ≡ values) × Readable form bytes room
+unfolding table_outcome
+table_readable form bytes room values own h =
+    let a = then_gives _ _ h in
+    let b = then_gives _ _ a.2 in
+    let d = when_gives 8 0 (ltb room (length form.row * rows_on form bytes)) refl b.2 in
+    let e : gives values ≡ gives own = d.1 in
+    (cc, record { whole = (wire_whole _ _ _ _ _ _ bytes a.0 a.1).1; sound = in_order_none _ _ _ b.1; held = ltb-false _ _ d.0 })
+
+-- ---- counts in memory
+
+-- the tests of a table in memory are those of its count, then the others
+pub count_parts : (form : Form) (count numbers : ℕ) (next : Outcome)
+    → (refuses (number_of form.none) 0 when eqb count 0 else
+    refuses (number_of form.many) 0 when ltb form.most count else
+    refuses 1 0 when ltb numbers (length form.row * count) else
+    next)
+    ≡ (count_tests form count numbers then next)
+unfolding count_tests
+count_parts form count numbers next = three_then _ _ _ _ _ _ _ _ _ _
+
+-- rows whose count passes are lent
+pub count_held : (form : Form) (count numbers : ℕ) → gives [] ≡ count_tests form count numbers → length form.row * count ≤ numbers
+unfolding count_tests
+count_held form count numbers h =
+    let a = when_gives (number_of form.none) 0 (eqb count 0) refl (sym h) in
+    let b = when_gives (number_of form.many) 0 (ltb form.most count) refl a.1 in
+    ltb-false _ _ (when_gives 1 0 (ltb numbers (length form.row * count)) refl b.1).0

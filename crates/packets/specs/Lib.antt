@@ -3,3 +3,4 @@ pub mod Outcome
 pub mod Wire
 pub mod Records
 pub mod List
+pub mod Forms

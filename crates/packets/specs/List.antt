@@ -1,12 +1,12 @@
 -- The list on the wire (document 01, "Bits on the wire" and "Refusal numbers and their order"): what reading and writing one come to, and what
 -- every lent buffer then holds. A list is a table: a count, then a record for each packet. Widths are in bits. Assumes nothing.
-use Rattle.std.specs.Prelude.{ℕ, ◌*◌, ◌≡◌, List, [], ◌∷◌, ◌++◌, length, take, drop, ltb}
+use Rattle.std.specs.Prelude.{ℕ, ◌*◌, ◌≡◌, List, [], ◌∷◌, ◌++◌, length, take, drop, ltb, Result}
 use Rattle.bits.specs.Table.{rows, fields_at, table_bytes, write_table}
 use Rattle.packets.specs.Limits.{most_packets}
 use Rattle.packets.specs.Outcome.{Outcome, gives, refuses, ◌when◌else◌, ◌then◌, ◌given◌else◌, list_answer_of, written_answer_of}
 use Rattle.packets.specs.Wire.{count_at, table_tests}
-use Rattle.packets.specs.declared.list.ListAnswer.{ListAnswer}
-use Rattle.packets.specs.declared.list.WrittenAnswer.{WrittenAnswer}
+use Rattle.packets.specs.declared.list.ListSize.{ListSize}
+use Rattle.packets.specs.declared.refusal.Refusal.{Refusal}
 use Rattle.packets.specs.Records.{record_numbers, record_tests, memory_tests}
 
 -- the width of the count (bits)
@@ -71,7 +71,7 @@ bytes_after count records lent =
 -- ---- the promises
 
 -- what judging a list promises: the answer
-abbrev pub ListJudged : List ℕ → ℕ → ListAnswer → Type 0
+abbrev pub ListJudged : List ℕ → ℕ → Result ListSize Refusal → Type 0
 ListJudged bytes room answer = list_answer_of answer ≡ read_outcome bytes room
 
 -- what reading one promises: the part handed back, and the lent records at exit
@@ -79,6 +79,6 @@ abbrev pub ListRead : List ℕ → List ℕ → List ℕ → List ℕ → Type 0
 ListRead bytes lent rest after = (rest ≡ rest_after bytes (length lent)) × (after ≡ records_after bytes lent)
 
 -- what writing one promises: the answer, and the lent bytes at exit
-abbrev pub ListWritten : ℕ → List ℕ → List ℕ → WrittenAnswer → List ℕ → Type 0
+abbrev pub ListWritten : ℕ → List ℕ → List ℕ → Result ℕ Refusal → List ℕ → Type 0
 ListWritten count records lent answer after =
     (written_answer_of answer ≡ write_outcome count records (length lent)) × (after ≡ bytes_after count records lent)

@@ -1,14 +1,9 @@
 -- What a call comes to: the values that it gives, or the refusal's number and place (document 01, "Refusal numbers and their order").
--- A definition for each enum answer gives the number and the values of each of its cases: `refusal_of`, `verdict_of` and the like. Assumes nothing.
-use Rattle.std.specs.Prelude.{ℕ, zero, suc, List, [], ◌∷◌, Bool, true, false}
+-- An answer is a result: `answer_of` tells its values or its refusal, and `verdict_of` and the like say which values each call's answer has. Assumes nothing.
+use Rattle.std.specs.Prelude.{ℕ, zero, suc, List, [], ◌∷◌, Bool, true, false, Result, Ok, Err}
 use Rattle.packets.specs.declared.refusal.Refusal.{Refusal}
 use Rattle.packets.specs.declared.refusal.Refusal.TheVariants.{Short, NoPackets, TooManyPackets, Size, Deadline, Arrival, UnusedBit, NoRoom, EntryCount, Entry, Cost}
-use Rattle.packets.specs.declared.judge.Verdict.{Verdict}
-use Rattle.packets.specs.declared.judge.Verdict.TheVariants.{Passed, Refused}
-use Rattle.packets.specs.declared.list.ListAnswer.{ListAnswer}
-use Rattle.packets.specs.declared.list.ListAnswer.TheVariants as list_answer
-use Rattle.packets.specs.declared.list.WrittenAnswer.{WrittenAnswer}
-use Rattle.packets.specs.declared.list.WrittenAnswer.TheVariants as written_answer
+use Rattle.packets.specs.declared.list.ListSize.{ListSize}
 
 pub data Outcome : Type 0 where
   -- the call gives these values
@@ -71,17 +66,23 @@ place_of Cost = 0
 abbrev pub refusal_of : Refusal → Outcome
 refusal_of refusal = refuses (number_of refusal) (place_of refusal)
 
+-- what an answer comes to: the values of what it gives, or its refusal
+abbrev pub answer_of : {T : Type 0} → (T → List ℕ) → Result T Refusal → Outcome
+answer_of values (Ok answer) = gives (values answer)
+answer_of values (Err refusal) = refusal_of refusal
+
+-- what has no values to tell
+abbrev pub no_values : {T : Type 0} → T → List ℕ
+no_values answer = []
+
 -- a verdict that passes gives no values
-abbrev pub verdict_of : Verdict → Outcome
-verdict_of Passed = gives []
-verdict_of (Refused refusal) = refusal_of refusal
+abbrev pub verdict_of : Result (Unit {0}) Refusal → Outcome
+verdict_of verdict = answer_of no_values verdict
 
 -- a list that is read gives its packets and the bytes that it takes
-abbrev pub list_answer_of : ListAnswer → Outcome
-list_answer_of (list_answer.Packets count bytes) = gives (count ∷ bytes ∷ [])
-list_answer_of (list_answer.Refused refusal) = refusal_of refusal
+abbrev pub list_answer_of : Result ListSize Refusal → Outcome
+list_answer_of answer = answer_of (λ (size : ListSize). size.count ∷ size.bytes ∷ []) answer
 
 -- a list that is written gives the bytes that it takes
-abbrev pub written_answer_of : WrittenAnswer → Outcome
-written_answer_of (written_answer.Written bytes) = gives (bytes ∷ [])
-written_answer_of (written_answer.Refused refusal) = refusal_of refusal
+abbrev pub written_answer_of : Result ℕ Refusal → Outcome
+written_answer_of answer = answer_of (λ (bytes : ℕ). bytes ∷ []) answer

@@ -2,9 +2,11 @@
 // What is tested is said by specs/Records.antt.
 ghost use Rattle.std.specs.Prelude.{◌≡◌, ◌+◌, ◌*◌, ◌<◌, ◌≤◌, length};
 ghost use Rattle.packets.specs.Outcome.{verdict_of};
-ghost use Rattle.packets.specs.Records.{record_test, record_tests, memory_tests, record_numbers};
+ghost use Rattle.packets.specs.Records.{record_test, memory_tests};
 
+use crate::list::ListTable;
 use crate::refusal::Refusal;
+use crate::tables;
 
 // The most packets of a list (packets).
 pub const MOST_PACKETS: usize = 64;
@@ -15,62 +17,29 @@ pub const LAST_SECOND: u64 = 86_400;
 // The numbers of a record: size (bytes), arrival (seconds), deadline (seconds).
 pub const RECORD_NUMBERS: usize = 3;
 
-// What a run of tests finds.
-#[derive(Clone, Copy)]
-pub enum Verdict {
-    Passed,
-    Refused(Refusal),
-}
-
-// The tests of packets in memory, of which count are called for.
-pub fn judge_packets(count: usize, records: &[u64]) -> Verdict
+// The tests of packets in memory, of which count are called for. Count and records come apart, as C hands them over.
+pub fn judge_packets(count: usize, records: &[u64]) -> Result<(), Refusal>
     ensures { verdict_of result ≡ memory_tests count records.now }
 {
-    if count == 0 {
-        return Verdict::Refused(Refusal::NoPackets);
-    }
-    if MOST_PACKETS < count {
-        return Verdict::Refused(Refusal::TooManyPackets);
-    }
-    if records.len() < RECORD_NUMBERS * count {
-        return Verdict::Refused(Refusal::Short);
-    }
-    judge_records(count, records)
+    tables::judge_count::<ListTable>(count, records.len())?;
+    tables::judge_rows::<ListTable>(count, records)
 }
 
-// The tests of each of the first count records, in order.
-pub fn judge_records(count: usize, records: &[u64]) -> Verdict
-    requires { record_numbers * count ≤ length records.now }
-    ensures { verdict_of result ≡ record_tests count 0 records.now }
-{
-    let mut i = 0;
-    let mut at = 0;
-    while i < count {
-        let verdict = judge_record(i, records[at], records[at + 1], records[at + 2]);
-        if let Verdict::Refused(refusal) = verdict {
-            return Verdict::Refused(refusal);
-        }
-        i += 1;
-        at += RECORD_NUMBERS;
-    }
-    Verdict::Passed
-}
-
-// The tests of record i.
-fn judge_record(i: usize, size: u64, arrival: u64, deadline: u64) -> Verdict
+// The tests of record i, number by number, as the definition has them.
+pub(crate) fn judge_record(i: usize, size: u64, arrival: u64, deadline: u64) -> Result<(), Refusal>
     ensures { verdict_of result ≡ record_test i size arrival deadline }
 {
     if size == 0 {
-        return Verdict::Refused(Refusal::Size(i));
+        return Err(Refusal::Size(i));
     }
     if LARGEST_SIZE < size {
-        return Verdict::Refused(Refusal::Size(i));
+        return Err(Refusal::Size(i));
     }
     if LAST_SECOND < deadline {
-        return Verdict::Refused(Refusal::Deadline(i));
+        return Err(Refusal::Deadline(i));
     }
     if deadline <= arrival {
-        return Verdict::Refused(Refusal::Arrival(i));
+        return Err(Refusal::Arrival(i));
     }
-    Verdict::Passed
+    Ok(())
 }

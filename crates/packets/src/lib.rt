@@ -3,4 +3,6 @@
 
 pub mod judge;
 pub mod list;
+pub mod packets;
 pub mod refusal;
+pub mod tables;

@@ -3,8 +3,11 @@
 ghost use Rattle.std.specs.Prelude.{◌≡◌};
 ghost use Rattle.packets.specs.Outcome.{number_of, place_of};
 
+use std::fmt;
+use std::fmt::{Display, Formatter};
+
 // Why a call refuses. A case with a place holds the index of the record or entry at fault.
-#[derive(Clone, Copy)]
+#[derive(Clone, Copy, PartialEq, Eq, Debug)]
 pub enum Refusal {
     // 1: the bytes, records or entries end before the count does, or there are no bytes to have a count in
     Short,
@@ -30,40 +33,42 @@ pub enum Refusal {
     Cost,
 }
 
-// The number of a refusal.
-pub fn number(refusal: Refusal) -> u64
-    ensures { result ≡ number_of refusal }
-{
-    match refusal {
-        Refusal::Short => 1,
-        Refusal::NoPackets => 2,
-        Refusal::TooManyPackets => 3,
-        Refusal::Size(_) => 4,
-        Refusal::Deadline(_) => 5,
-        Refusal::Arrival(_) => 6,
-        Refusal::UnusedBit => 7,
-        Refusal::NoRoom => 8,
-        Refusal::EntryCount => 9,
-        Refusal::Entry(_) => 10,
-        Refusal::Cost => 11,
+impl Refusal {
+    // The number of a refusal: the rules' own, which no derive knows.
+    pub fn number(self) -> u64
+        ensures { result ≡ number_of self }
+    {
+        match self {
+            Refusal::Short => 1,
+            Refusal::NoPackets => 2,
+            Refusal::TooManyPackets => 3,
+            Refusal::Size(_) => 4,
+            Refusal::Deadline(_) => 5,
+            Refusal::Arrival(_) => 6,
+            Refusal::UnusedBit => 7,
+            Refusal::NoRoom => 8,
+            Refusal::EntryCount => 9,
+            Refusal::Entry(_) => 10,
+            Refusal::Cost => 11,
+        }
+    }
+
+    // Its place: the index of the record or entry at fault, else 0.
+    pub fn place(self) -> usize
+        ensures { result ≡ place_of self }
+    {
+        match self {
+            Refusal::Size(i) | Refusal::Deadline(i) | Refusal::Arrival(i) | Refusal::Entry(i) => i,
+            _ => 0,
+        }
     }
 }
 
-// Its place: the index of the record or entry at fault, else 0.
-pub fn place(refusal: Refusal) -> usize
-    ensures { result ≡ place_of refusal }
-{
-    match refusal {
-        Refusal::Short => 0,
-        Refusal::NoPackets => 0,
-        Refusal::TooManyPackets => 0,
-        Refusal::Size(i) => i,
-        Refusal::Deadline(i) => i,
-        Refusal::Arrival(i) => i,
-        Refusal::UnusedBit => 0,
-        Refusal::NoRoom => 0,
-        Refusal::EntryCount => 0,
-        Refusal::Entry(i) => i,
-        Refusal::Cost => 0,
+// The line of a refusal: its number and its place.
+impl Display for Refusal {
+    fn fmt<W: fmt::Write>(&self, f: &mut Formatter<W>) -> fmt::Result {
+        let number = self.number();
+        let place = self.place();
+        write!(f, "refused {number} {place}")
     }
 }

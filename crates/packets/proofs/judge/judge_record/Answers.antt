@@ -35,5 +35,5 @@ returns c =
       ne_eqb _ _ c.if-size-eq0.false,
       le-ltb _ _ c.if-size-gt-LARGEST_SIZE.false,
       le-ltb _ _ c.if-deadline-gt-LAST_SECOND.false,
-      lt-leb _ _ c.if-deadline-arrival.false,
+      lt-leb c.args.deadline c.args.arrival (let h = c.if-deadline-arrival.false in omega arith),
     )
