@@ -1,6 +1,6 @@
 -- Laws of the plan in a frame: the bits that it takes, what an answer that gives values tells, and what every buffer then holds. Assumes nothing.
 use Prim.Native.Nat.{ℕ, zero, suc, ◌+◌, ◌-◌, ◌*◌, ◌/◌, ◌<◌, ◌≤◌, ◌^◌}
-use mathlib.Core.Path.{◌≡◌, refl, sym, ap, ap₂, ◌∙◌}
+use mathlib.Core.Path.{◌≡◌, refl, sym, ap, ◌∙◌}
 use mathlib.Core.List.{List, [], ◌∷◌, ◌++◌, append-nil}
 use native.Mathlib.Omega.{arith}
 use lib.ListN.{length, take, drop, length-drop, drop_of_length-le}
@@ -10,12 +10,13 @@ use borrow.Author.Tests.{eqb-false, ltb-false, leb-false, eq-eqb, ne_eqb, le-ltb
 use Rattle.bits.specs.Table.{total, rows, fields_at, field_widths, table_bytes, write_table, AtMost}
 use Rattle.bits.proofs.Tables.{total_rows, length_rows, length_fields}
 use Rattle.packets.specs.Outcome.{gives, ◌when◌else◌, refusal_of}
-use Rattle.packets.specs.Wire.{table_tests}
+use Rattle.packets.specs.Wire.{table_tests, table_outcome}
+use Rattle.plan.specs.Forms.{plan_form}
 use Rattle.packets.specs.declared.refusal.Refusal.TheVariants.{Short}
-use Rattle.packets.proofs.Outcomes.{when_gives, then_gives, refused_then, given_leaves, has_room}
-use Rattle.packets.proofs.Wire.{Whole, wire_whole, stored_given}
+use Rattle.packets.proofs.Outcomes.{when_gives, refused_then, given_leaves, has_room}
+use Rattle.packets.proofs.Wire.{table_readable, Whole, stored_given}
 use Rattle.plan.specs.Entries.{most_entries, entry_numbers, entry_widths, entry_tests}
-use Rattle.plan.specs.Frame.{head_bytes, count_width, cost_width, head_widths, frame_bytes, count_on, cost_on, entries_on, wire_tests, room_test, read_outcome, entries_after, memory_tests, write_outcome, framed, frame_after}
+use Rattle.plan.specs.Frame.{head_bytes, count_width, cost_width, head_widths, frame_bytes, count_on, cost_on, entries_on, room_test, read_outcome, entries_after, memory_tests, write_outcome, framed, frame_after}
 use Rattle.plan.proofs.Judging.{tests_pass}
 
 -- ---- the bits of a plan
@@ -41,15 +42,6 @@ head_narrow zero = omega arith
 head_narrow (suc zero) = omega arith
 head_narrow (suc (suc i)) = omega arith
 
-pub entry_narrow : AtMost 64 entry_widths
-entry_narrow zero = omega arith
-entry_narrow (suc zero) = omega arith
-entry_narrow (suc (suc zero)) = omega arith
-entry_narrow (suc (suc (suc zero))) = omega arith
-entry_narrow (suc (suc (suc (suc zero)))) = omega arith
-entry_narrow (suc (suc (suc (suc (suc zero))))) = omega arith
-entry_narrow (suc (suc (suc (suc (suc (suc i)))))) = omega arith
-
 -- six numbers for each entry
 pub length_entries : (plan : List ℕ) (count : ℕ) → length (fields_at plan (count_width + cost_width) (rows count entry_widths)) ≡ entry_numbers * count
 length_entries plan count = length_fields plan (count_width + cost_width) (rows count entry_widths) ∙ length_rows count entry_widths ∙ omega arith
@@ -65,9 +57,10 @@ entries_read : (plan : List ℕ) (count : ℕ) → count ≡ count_on plan → f
 unfolding entries_on
 entries_read plan count e = rw e
 
-pub entries_are : (plan : List ℕ) (count : ℕ) → count ≡ count_on plan
-    → entry_tests count 0 (fields_at plan 52 (rows count entry_widths)) ≡ entry_tests (count_on plan) 0 (entries_on plan)
-entries_are plan count e = ap₂ (λ (n : ℕ) (l : List ℕ). entry_tests n 0 l) e (entries_read plan count e)
+-- reading a plan is reading a table of its form
+pub plan_outcome : (plan : List ℕ) (room : ℕ) → read_outcome plan room ≡ table_outcome plan_form plan room (count_on plan ∷ cost_on plan ∷ [])
+unfolding read_outcome room_test entry_tests entries_on table_outcome total
+plan_outcome plan room = refl
 
 -- a plan that is read: whole, its entries sound, and room for them
 pub record Readable (plan : List ℕ) (room : ℕ) (values : List ℕ) : Type 0 where
@@ -77,17 +70,10 @@ pub record Readable (plan : List ℕ) (room : ℕ) (values : List ℕ) : Type 0 
   pub told : values ≡ count_on plan ∷ cost_on plan ∷ []
 
 pub read_readable : (plan : List ℕ) (room : ℕ) (values : List ℕ) → read_outcome plan room ≡ gives values → Readable plan room values
-unfolding read_outcome room_test
+unfolding entry_tests entries_on total
 read_readable plan room values h =
-    let a = then_gives (wire_tests plan) _ h in
-    let b = then_gives (entry_tests (count_on plan) 0 (entries_on plan)) _ a.2 in
-    let d = when_gives 8 0 (ltb room (entry_numbers * count_on plan)) refl b.2 in
-    record {
-      whole = (wire_whole _ _ _ _ _ _ plan a.0 a.1).1;
-      sound = tests_pass (count_on plan) 0 (entries_on plan) b.0 b.1;
-      held = ltb-false _ _ d.0;
-      told = let e : gives (count_on plan ∷ cost_on plan ∷ []) ≡ gives values = d.1 in cc;
-    }
+    let r = table_readable plan_form plan room _ values (sym (plan_outcome plan room) ∙ h) in
+    record { whole = r.1.whole; sound = r.1.sound; held = r.1.held; told = r.0 }
 
 -- the numbers of such an answer, and the bounds that they meet
 pub record Told (plan : List ℕ) (room count : ℕ) : Type 0 where

@@ -3,8 +3,7 @@ use Prim.Native.Nat.{ℕ, ◌+◌, ◌*◌, ◌<◌, ◌≤◌, ◌^◌}
 use mathlib.Core.Path.{◌≡◌, refl}
 use mathlib.Core.List.{List, [], ◌++◌}
 use native.Mathlib.Omega.{arith}
-use native.Mathlib.Nat.{add-zero}
-use lib.ListN.{length, get_or, take}
+use lib.ListN.{length, take}
 use lib.Seq.{sets}
 use lib.Dec.{eqb, ltb, leb}
 use borrow.Author.Tests.{eqb-false, ltb-false, leb-false, ne_eqb, le-ltb, lt-leb}
@@ -12,6 +11,7 @@ use Rattle.packets.specs.Limits.{last_second}
 use Rattle.packets.specs.Outcome.{gives, ◌when◌else◌}
 use Rattle.packets.proofs.Outcomes.{when_gives, in_order_pass, in_order_each, in_order_none}
 use Rattle.packets.proofs.Wire.{rows_past, rows_stored, rows_first}
+use Rattle.plan.specs.Forms.{entry_own}
 use Rattle.plan.specs.Entries.{entry_numbers, field_of, entry_test, entry_at, entry_tests, Sound}
 
 -- ---- one entry
@@ -81,12 +81,6 @@ tests_pass n i entries values h = in_order_none (entry_at entries) n i h
 
 -- ---- what the tests look at
 
--- the test of an entry looks at its own numbers
-entry_own : (a b : List ℕ) (i : ℕ) → ((j : ℕ) → j < entry_numbers → field_of a i j ≡ field_of b i j) → entry_at a i ≡ entry_at b i
-unfolding entry_at
-entry_own a b i same =
-    rw (same 0 (omega arith), same 1 (omega arith), same 2 (omega arith), same 3 (omega arith), same 4 (omega arith), same 5 (omega arith))
-
 -- entries past the count have no influence
 pub tests_past : (count : ℕ) (entries extra : List ℕ) → entry_numbers * count ≤ length entries → entry_tests count 0 (entries ++ extra) ≡ entry_tests count 0 entries
 unfolding entry_tests
@@ -102,10 +96,3 @@ pub tests_first : (count : ℕ) (entries : List ℕ) → entry_numbers * count �
     → entry_tests count 0 (take (entry_numbers * count) entries) ≡ entry_tests count 0 entries
 unfolding entry_tests
 tests_first = rows_first entry_numbers entry_at entry_own
-
--- the tests of entry i, which stands at number `at`
-pub test_at : (entries : List ℕ) (i at : ℕ) → at ≡ entry_numbers * i
-    → entry_test i (get_or entries at 0) (get_or entries (at + 1) 0) (get_or entries (at + 2) 0) (get_or entries (at + 3) 0) (get_or entries (at + 4) 0) (get_or entries (at + 5) 0)
-    ≡ entry_at entries i
-unfolding entry_at
-test_at entries i at place = rw (place, add-zero)

@@ -1,15 +1,13 @@
 -- The plan in a lent frame (document 01, "Bits on the wire" and "Refusal numbers and their order"): what writing and reading one come to, and what every
 -- lent buffer then holds. A plan is a table that starts at byte 8: entry count and cost, then a row for each entry. Widths are in bits. Assumes nothing.
-use Rattle.std.specs.Prelude.{ℕ, ◌+◌, ◌*◌, ◌^◌, ◌≡◌, List, [], ◌∷◌, ◌++◌, length, take, drop, eqb, ltb, leb}
+use Rattle.std.specs.Prelude.{ℕ, ◌+◌, ◌*◌, ◌^◌, ◌≡◌, List, [], ◌∷◌, ◌++◌, length, take, drop, eqb, ltb, leb, Result}
 use Rattle.bits.specs.Field.{field_at}
 use Rattle.bits.specs.Table.{rows, fields_at, table_bytes, write_table}
-use Rattle.packets.specs.Outcome.{Outcome, gives, refuses, ◌when◌else◌, ◌then◌, ◌given◌else◌, refusal_of}
+use Rattle.packets.specs.Outcome.{Outcome, gives, refuses, ◌when◌else◌, ◌then◌, ◌given◌else◌, answer_of}
+use Rattle.packets.specs.declared.refusal.Refusal.{Refusal}
+use Rattle.plan.specs.declared.frame.PlanHead.{PlanHead}
 use Rattle.packets.specs.Wire.{count_at, table_tests}
 use Rattle.plan.specs.Entries.{most_entries, entry_numbers, entry_widths, entry_tests}
-use Rattle.plan.specs.declared.frame.ReadAnswer.{ReadAnswer}
-use Rattle.plan.specs.declared.frame.ReadAnswer.TheVariants as read_answer
-use Rattle.plan.specs.declared.frame.FrameAnswer.{FrameAnswer}
-use Rattle.plan.specs.declared.frame.FrameAnswer.TheVariants as frame_answer
 
 -- the bytes at a frame's front that belong to the radio driver (bytes)
 abbrev pub head_bytes : ℕ
@@ -32,14 +30,12 @@ frame_bytes count = head_bytes + table_bytes head_widths entry_widths count
 -- ---- answers
 
 -- a plan that is read gives its entries and its cost (bytes per second, squared, times seconds)
-abbrev pub read_answer_of : ReadAnswer → Outcome
-read_answer_of (read_answer.Entries count cost) = gives (count ∷ cost ∷ [])
-read_answer_of (read_answer.Refused refusal) = refusal_of refusal
+abbrev pub read_answer_of : Result PlanHead Refusal → Outcome
+read_answer_of answer = answer_of (λ (head : PlanHead). head.entries ∷ head.cost ∷ []) answer
 
 -- a plan that is written gives the bytes of the frame that it takes, the head included (bytes)
-abbrev pub frame_answer_of : FrameAnswer → Outcome
-frame_answer_of (frame_answer.Written bytes) = gives (bytes ∷ [])
-frame_answer_of (frame_answer.Refused refusal) = refusal_of refusal
+abbrev pub frame_answer_of : Result ℕ Refusal → Outcome
+frame_answer_of answer = answer_of (λ (bytes : ℕ). bytes ∷ []) answer
 
 -- ---- reading
 
@@ -106,11 +102,11 @@ frame_after count entries cost frame = framed count entries cost frame given wri
 -- ---- the promises
 
 -- what reading a plan promises: the answer, and the lent entries at exit
-abbrev pub PlanRead : List ℕ → List ℕ → ReadAnswer → List ℕ → Type 0
+abbrev pub PlanRead : List ℕ → List ℕ → Result PlanHead Refusal → List ℕ → Type 0
 PlanRead frame lent answer after =
     (read_answer_of answer ≡ read_outcome (plan_on frame) (length lent)) × (after ≡ entries_after (plan_on frame) lent)
 
 -- what writing a plan promises: the answer, and the lent frame at exit
-abbrev pub PlanWritten : ℕ → List ℕ → ℕ → List ℕ → FrameAnswer → List ℕ → Type 0
+abbrev pub PlanWritten : ℕ → List ℕ → ℕ → List ℕ → Result ℕ Refusal → List ℕ → Type 0
 PlanWritten count entries cost frame answer after =
     (frame_answer_of answer ≡ write_outcome count entries cost (length frame)) × (after ≡ frame_after count entries cost frame)

@@ -1,27 +1,15 @@
 // The plan in a lent frame: entries and cost in memory into the frame from byte 8 on, and back into lent entries.
 // What each call comes to, and what it leaves in every lent buffer, is said by specs/Frame.antt.
-ghost use Rattle.std.specs.Prelude.{◌≡◌, ◌+◌, ◌*◌, ◌<◌, ◌≤◌, length};
-ghost use Rattle.bits.specs.Table.{rows, fields_at, table_bytes};
+ghost use Rattle.std.specs.Prelude.{◌≡◌, ◌<◌, ◌≤◌};
 ghost use Rattle.packets.specs.Outcome.{verdict_of};
-ghost use Rattle.plan.specs.Entries.{most_entries, entry_widths, entry_tests};
-ghost use Rattle.plan.specs.Frame.{
-  head_widths,
-  frame_bytes,
-  count_on,
-  wire_tests,
-  read_outcome,
-  entries_after,
-  memory_tests,
-  read_answer_of,
-  PlanRead,
-  PlanWritten,
-};
+ghost use Rattle.plan.specs.Forms.{plan_form, plan_laws};
+ghost use Rattle.plan.specs.Frame.{frame_bytes, memory_tests, PlanRead, PlanWritten};
 
-use crate::entries;
-use crate::entries::{ENTRY_NUMBERS, MOST_ENTRIES};
+use crate::entries::{ENTRY_NUMBERS, MOST_ENTRIES, judge_entry};
 use bits::{field, table};
-use packets::judge::Verdict;
 use packets::refusal::Refusal;
+use packets::tables;
+use packets::tables::Table;
 
 // The bytes at a frame's front that belong to the radio driver (bytes).
 const HEAD_BYTES: usize = 8;
@@ -43,43 +31,98 @@ const ENTRY_WIDTH: usize = 140;
 // The first cost that does not fit (bytes per second, squared, times seconds).
 const COST_END: u64 = 17_592_186_044_416;
 
-// What reading a plan comes to: its entries and its cost (bytes per second, squared, times seconds), or the refusal.
-#[derive(Clone, Copy)]
-pub enum ReadAnswer {
-    Entries { count: usize, cost: u64 },
-    Refused(Refusal),
+// The numbers of a plan of 191 entries.
+pub const PLAN_NUMBERS: usize = 1146;
+
+// A plan as a table on the wire: the entry count and the cost, then a row for each entry.
+pub struct PlanTable;
+
+impl Table for PlanTable {
+    ghost form = { plan_form };
+
+    ghost laws = { plan_laws };
+
+    fn count_width() -> usize {
+        COUNT_WIDTH
+    }
+
+    #[tactic(auto, unfolding(bits::specs::Table::total))]
+    fn head_width() -> usize {
+        HEAD_WIDTH
+    }
+
+    #[tactic(auto, unfolding(bits::specs::Table::total))]
+    fn row_width() -> usize {
+        ENTRY_WIDTH
+    }
+
+    fn row_widths() -> &'static [usize] {
+        &ENTRY_WIDTHS
+    }
+
+    fn most() -> usize {
+        MOST_ENTRIES
+    }
+
+    fn none() -> Refusal {
+        Refusal::EntryCount
+    }
+
+    fn many() -> Refusal {
+        Refusal::EntryCount
+    }
+
+    fn judge_row(numbers: &[u64], i: usize) -> Result<(), Refusal> {
+        let at = ENTRY_NUMBERS * i;
+        judge_entry(
+            i,
+            numbers[at],
+            numbers[at + 1],
+            numbers[at + 2],
+            numbers[at + 3],
+            numbers[at + 4],
+            numbers[at + 5],
+        )
+    }
 }
 
-// What writing a plan comes to: the bytes of the frame that it takes, the head included, or the refusal.
-#[derive(Clone, Copy)]
-pub enum FrameAnswer {
-    Written(usize),
-    Refused(Refusal),
+// The head of a plan: how many entries it has, and its cost (bytes per second, squared, times seconds).
+#[derive(Clone, Copy, PartialEq, Eq, Debug)]
+pub struct PlanHead {
+    pub entries: usize,
+    pub cost: u64,
 }
 
-// Reads the plan from byte 8 of the frame on into the lent entries, six numbers an entry. It reads nothing before byte 8 and nothing behind the plan, and
-// compares it with no list. A refusal changes nothing.
-pub fn read_plan(frame: &[u8], lent: &mut [u64]) -> ReadAnswer
+// Reads the plan from byte 8 of the frame on into the lent entries, six numbers an entry, and answers its head. It reads nothing before byte 8 and nothing
+// behind the plan, and compares it with no list. A refusal changes nothing.
+pub fn read_plan(frame: &[u8], lent: &mut [u64]) -> Result<PlanHead, Refusal>
     ensures { PlanRead frame.now lent.old result lent.new }
 {
     if frame.len() < HEAD_BYTES {
-        return ReadAnswer::Refused(Refusal::Short);
+        return Err(Refusal::Short);
     }
-    read_from(&frame[HEAD_BYTES..], lent)
+    let plan = &frame[HEAD_BYTES..];
+    let entries = tables::read_table::<PlanTable, PLAN_NUMBERS>(plan, lent)?;
+    Ok(PlanHead {
+        entries,
+        cost: field::get(plan, COUNT_WIDTH, COST_WIDTH),
+    })
 }
 
-// Writes entries and cost as a plan into the lent frame from byte 8 on. The eight head bytes and the bytes behind the plan stay, and a refusal changes
-// nothing.
-pub fn write_plan(count: usize, entries: &[u64], cost: u64, frame: &mut [u8]) -> FrameAnswer
+// Writes entries and cost as a plan into the lent frame from byte 8 on, and answers how many bytes of the frame it takes, the head included. The eight head
+// bytes and the bytes behind the plan stay, and a refusal changes nothing.
+pub fn write_plan(
+    count: usize,
+    entries: &[u64],
+    cost: u64,
+    frame: &mut [u8],
+) -> Result<usize, Refusal>
     ensures { PlanWritten count entries.now cost frame.old result frame.new }
 {
-    let verdict = judge_memory(count, entries, cost);
-    if let Verdict::Refused(refusal) = verdict {
-        return FrameAnswer::Refused(refusal);
-    }
+    judge_memory(count, entries, cost)?;
     let used = frame_bytes(count);
     if frame.len() < used {
-        return FrameAnswer::Refused(Refusal::NoRoom);
+        return Err(Refusal::NoRoom);
     }
     let head = [count as u64, cost];
     table::write_table(
@@ -90,111 +133,20 @@ pub fn write_plan(count: usize, entries: &[u64], cost: u64, frame: &mut [u8]) ->
         count,
         entries,
     );
-    FrameAnswer::Written(used)
+    Ok(used)
 }
 
-// Reads the plan at the front of these bytes into the lent entries.
-fn read_from(plan: &[u8], lent: &mut [u64]) -> ReadAnswer
-    ensures { (read_answer_of result ≡ read_outcome plan.now (length lent.old))
-        × (lent.new ≡ entries_after plan.now lent.old) }
-{
-    let answer = judge_plan(plan, lent.len());
-    if let ReadAnswer::Entries { count, cost } = answer {
-        table::read_rows(plan, HEAD_WIDTH, &ENTRY_WIDTHS, count, lent);
-        return ReadAnswer::Entries { count, cost };
-    }
-    answer
-}
-
-// What reading the plan at the front of these bytes into room for so many numbers comes to.
-fn judge_plan(plan: &[u8], room: usize) -> ReadAnswer
-    ensures { read_answer_of result ≡ read_outcome plan.now room }
-{
-    let wire = judge_wire(plan);
-    if let Verdict::Refused(refusal) = wire {
-        return ReadAnswer::Refused(refusal);
-    }
-    let count = count_on(plan);
-    let fields = judge_fields(plan, count);
-    if let Verdict::Refused(refusal) = fields {
-        return ReadAnswer::Refused(refusal);
-    }
-    if room < ENTRY_NUMBERS * count {
-        return ReadAnswer::Refused(Refusal::NoRoom);
-    }
-    ReadAnswer::Entries {
-        count,
-        cost: field::get(plan, COUNT_WIDTH, COST_WIDTH),
-    }
-}
-
-// The tests of the bytes alone.
-fn judge_wire(plan: &[u8]) -> Verdict
-    ensures { verdict_of result ≡ wire_tests plan.now }
-{
-    if plan.len() == 0 {
-        return Verdict::Refused(Refusal::Short);
-    }
-    let count = count_on(plan);
-    if count == 0 {
-        return Verdict::Refused(Refusal::EntryCount);
-    }
-    if MOST_ENTRIES < count {
-        return Verdict::Refused(Refusal::EntryCount);
-    }
-    if plan.len() < plan_bytes(count) {
-        return Verdict::Refused(Refusal::Short);
-    }
-    let end = HEAD_WIDTH + ENTRY_WIDTH * count;
-    if 0 < field::get(plan, end, table::unused_bits(end)) {
-        return Verdict::Refused(Refusal::UnusedBit);
-    }
-    Verdict::Passed
-}
-
-// The tests of the entries behind the cost.
-fn judge_fields(plan: &[u8], count: usize) -> Verdict
-    requires { (count ≤ most_entries) × (52 + 140 * count ≤ 8 * length plan.now) }
-    ensures { verdict_of result ≡ entry_tests count 0 (fields_at plan.now 52 (rows count entry_widths)) }
-{
-    let mut fields = [0u64; 1146];
-    table::read_rows(plan, HEAD_WIDTH, &ENTRY_WIDTHS, count, &mut fields);
-    entries::judge_entries(count, &fields)
-}
+// `write_list` has this shape too, and stays apart: a list has no cost to test and no head before it, and what is alike is `write_table`.
 
 // The tests of entries in memory and their cost.
-fn judge_memory(count: usize, entries: &[u64], cost: u64) -> Verdict
+fn judge_memory(count: usize, entries: &[u64], cost: u64) -> Result<(), Refusal>
     ensures { verdict_of result ≡ memory_tests count entries.now cost }
 {
-    if count == 0 {
-        return Verdict::Refused(Refusal::EntryCount);
-    }
-    if MOST_ENTRIES < count {
-        return Verdict::Refused(Refusal::EntryCount);
-    }
-    if entries.len() < ENTRY_NUMBERS * count {
-        return Verdict::Refused(Refusal::Short);
-    }
+    tables::judge_count::<PlanTable>(count, entries.len())?;
     if COST_END <= cost {
-        return Verdict::Refused(Refusal::Cost);
+        return Err(Refusal::Cost);
     }
-    entries::judge_entries(count, entries)
-}
-
-// The entry count at the front of a plan (entries).
-fn count_on(plan: &[u8]) -> usize
-    requires { 0 < length plan.now }
-    ensures { (result ≡ count_on plan.now) × (result < 256) }
-{
-    field::get(plan, 0, COUNT_WIDTH) as usize
-}
-
-// The bytes of a plan of so many entries (bytes).
-fn plan_bytes(count: usize) -> usize
-    requires { count < 256 }
-    ensures { (result ≡ table_bytes head_widths entry_widths count) × (result ≤ 4496) }
-{
-    table::bytes_for(HEAD_WIDTH + ENTRY_WIDTH * count)
+    tables::judge_rows::<PlanTable>(count, entries)
 }
 
 // The bytes of a frame with a plan of so many entries, its head included (bytes).
@@ -202,5 +154,5 @@ fn frame_bytes(count: usize) -> usize
     requires { count < 256 }
     ensures { (result ≡ frame_bytes count) × (8 ≤ result) }
 {
-    HEAD_BYTES + plan_bytes(count)
+    HEAD_BYTES + tables::table_bytes::<PlanTable>(count)
 }

@@ -51,4 +51,4 @@ returns-then-to-ge-OFFSET_END c =
 
 pub returns : goal.returns
 unfolding entry_test ◌when◌else◌
-returns c = simp (lt-leb _ _ c.if-packet-ge-PACKET_END.false, lt-leb _ _ c.if-start-ge-LAST_SECOND.false, ne_eqb _ _ c.if-r-eq0.false, lt-leb _ _ c.if-r-ge-SETTING_END.false, ne_eqb _ _ c.if-d-eq0.false, le-ltb _ _ c.if-d-gt-LAST_SECOND.false, lt-leb _ _ c.if-to-from.false, lt-leb _ _ c.if-to-ge-OFFSET_END.false)
+returns c = simp (lt-leb _ _ c.if-packet-ge-PACKET_END.false, lt-leb _ _ c.if-start-ge-LAST_SECOND.false, ne_eqb _ _ c.if-r-eq0.false, lt-leb _ _ c.if-r-ge-SETTING_END.false, ne_eqb _ _ c.if-d-eq0.false, le-ltb _ _ c.if-d-gt-LAST_SECOND.false, lt-leb c.args.to c.args.from (let h = c.if-to-from.false in omega arith), lt-leb _ _ c.if-to-ge-OFFSET_END.false)

@@ -1,40 +1,37 @@
--- `plan::frame::judge_memory` meets its contract: at each return the tests that led there say which case of `memory_tests` holds. Assumes nothing.
-use Prim.Native.Nat.{◌^◌}
-use native.Mathlib.Omega.{arith}
-use borrow.Author.Tests.{eq-eqb, ne_eqb, lt-ltb, le-ltb, le-leb, lt-leb}
-use Rattle.packets.specs.Outcome.{◌when◌else◌}
-use Rattle.plan.specs.Frame.{memory_tests}
+-- `plan::frame::judge_memory` meets its contract: the count is tested, then the cost, then the entries. Assumes nothing.
+use Rattle.std.proofs.Common.{ℕ, ◌^◌, ◌≡◌, List, length, leb, arith, sym, ◌∙◌}
+use Rattle.std.proofs.lemmas.Result.{err_from_is_err_and}
+use borrow.Author.Tests.{le-leb, lt-leb}
+use Rattle.packets.specs.Outcome.{refuses, ◌when◌else◌, ◌then◌}
+use Rattle.packets.specs.Wire.{count_tests}
+use Rattle.plan.specs.Forms.{plan_form}
+use Rattle.plan.specs.Frame.{cost_width, memory_tests}
+use Rattle.packets.proofs.Outcomes.{passed_then, refused_then}
+use Rattle.plan.specs.Entries.{entry_tests}
+use Rattle.packets.proofs.Wire.{count_parts, count_held}
 use Rattle.plan.proofs.frame.judge_memory.Goals as goal
 
-pub returns-then-count-eq0 : goal.returns-then-count-eq0
-unfolding memory_tests ◌when◌else◌
-returns-then-count-eq0 c = simp (eq-eqb _ _ c.if-count-eq0.true)
+-- the count first, then the cost, then the entries
+parts : (count : ℕ) (entries : List ℕ) (cost : ℕ)
+    → memory_tests count entries cost
+    ≡ (count_tests plan_form count (length entries) then refuses 11 0 when leb (2 ^ cost_width) cost else entry_tests count 0 entries)
+unfolding memory_tests
+parts count entries cost = count_parts plan_form count (length entries) _
 
-pub returns-then-count-gt-MOST_ENTRIES : goal.returns-then-count-gt-MOST_ENTRIES
-unfolding memory_tests ◌when◌else◌
-returns-then-count-gt-MOST_ENTRIES c = simp (ne_eqb _ _ c.if-count-eq0.false, lt-ltb _ _ c.if-count-gt-MOST_ENTRIES.true)
-
-pub returns-then-entries-count : goal.returns-then-entries-count
-unfolding memory_tests ◌when◌else◌
-returns-then-entries-count c = simp (ne_eqb _ _ c.if-count-eq0.false, le-ltb _ _ c.if-count-gt-MOST_ENTRIES.false, lt-ltb _ _ c.if-entries-count.true)
+pub returns-in_err-judge_count : goal.returns-in_err-judge_count
+returns-in_err-judge_count c =
+    let p = err_from_is_err_and c.from_residual.result c.from_residual.ensures.1 in
+    rw (p.1, p.2) (sym (parts c.args.count c.args.entries.now c.args.cost ∙ refused_then _ _ c.in_err-judge_count.ensures))
 
 pub returns-then-cost-ge-COST_END : goal.returns-then-cost-ge-COST_END
-unfolding memory_tests ◌when◌else◌
-returns-then-cost-ge-COST_END c =
-    simp (
-      ne_eqb _ _ c.if-count-eq0.false,
-      le-ltb _ _ c.if-count-gt-MOST_ENTRIES.false,
-      le-ltb _ _ c.if-entries-count.false,
-      le-leb (2 ^ 44) c.args.cost (omega arith),
-    )
+unfolding ◌when◌else◌
+returns-then-cost-ge-COST_END c = rw (parts c.args.count c.args.entries.now c.args.cost ∙ passed_then _ c.in_ok-judge_count.ensures) (simp (le-leb (2 ^ 44) c.args.cost (let h = c.if-cost-ge-COST_END.true in omega arith)))
+
+pub judge_rows-requires : goal.judge_rows-requires
+judge_rows-requires c = count_held _ _ _ c.in_ok-judge_count.ensures
 
 pub returns : goal.returns
-unfolding memory_tests ◌when◌else◌
+unfolding entry_tests ◌when◌else◌
 returns c =
-    simp (
-      ne_eqb _ _ c.if-count-eq0.false,
-      le-ltb _ _ c.if-count-gt-MOST_ENTRIES.false,
-      le-ltb _ _ c.if-entries-count.false,
-      lt-leb _ _ c.if-cost-ge-COST_END.false,
-    )
-    c.judge_entries.ensures
+    rw (parts c.args.count c.args.entries.now c.args.cost ∙ passed_then _ c.in_ok-judge_count.ensures)
+    (simp (lt-leb (2 ^ 44) c.args.cost (let h = c.if-cost-ge-COST_END.false in omega arith)) c.judge_rows.ensures)

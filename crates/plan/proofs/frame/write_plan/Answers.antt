@@ -1,45 +1,40 @@
 -- `plan::frame::write_plan` meets its contract: entries and cost are tested, then the room, and only then is the table written into the frame's part from
 -- byte 8 on. Assumes nothing.
-use mathlib.Core.Path.{◌≡◌, refl, sym}
+use mathlib.Core.Path.{refl, sym}
 use mathlib.Core.List.{[]}
 use native.Mathlib.Omega.{arith}
 use lib.ListN.{length-drop}
-use Rattle.packets.specs.Outcome.{gives}
 use Rattle.packets.specs.declared.refusal.Refusal.TheVariants.{NoRoom}
-use Rattle.packets.proofs.Outcomes.{refused_then, refused_all, no_room, verdict_refuses, verdict_passes}
-use Rattle.plan.specs.Frame.{memory_tests, frame_bytes, write_outcome, frame_after}
-use Rattle.plan.proofs.Framing.{Fitting, memory_fitting, write_gives, write_done, plan_total, whole_part, head_narrow, entry_narrow}
+use Rattle.packets.proofs.Outcomes.{refused_then, refused_all, no_room}
+use Rattle.plan.specs.Frame.{frame_bytes, write_outcome, frame_after}
+use Rattle.std.proofs.lemmas.Result.{err_from_is_err_and}
+use Rattle.plan.specs.Forms.{entry_narrow}
+use Rattle.plan.proofs.Framing.{Fitting, memory_fitting, write_gives, write_done, plan_total, whole_part, head_narrow}
 use Rattle.plan.proofs.frame.write_plan.Goals as goal
-use Rattle.plan.proofs.frame.write_plan.Goals.{In_default}
+use Rattle.plan.proofs.frame.write_plan.Goals.{In_ok-judge_memory}
 
-pub returns-in-Refused : goal.returns-in-Refused
+pub returns-in_err-judge_memory : goal.returns-in_err-judge_memory
 unfolding write_outcome frame_after
-returns-in-Refused c =
-    refused_all c.in-Refused.refusal _ _
-    (sym (refused_then c.in-Refused.refusal _ (verdict_refuses c.in-Refused.is c.judge_memory-verdict.ensures)))
+returns-in_err-judge_memory c =
+    let p = err_from_is_err_and c.from_residual.result c.from_residual.ensures.1 in
+    rw (p.1, p.2) (refused_all _ _ _ (sym (refused_then _ _ c.in_err-judge_memory.ensures)))
 
--- the entries and the cost pass their tests
-passes : (c : In_default)
-    → let a = c.args in
-    gives [] ≡ memory_tests a.count a.entries.now a.cost
-passes c = verdict_passes c.in_default.is c.judge_memory-verdict.ensures
-
-fitting : (c : In_default)
+fitting : (c : In_ok-judge_memory)
     → let a = c.args in
     Fitting a.count a.entries.now a.cost
-fitting c = memory_fitting _ _ _ [] (sym (passes c))
+fitting c = memory_fitting _ _ _ [] (sym c.in_ok-judge_memory.ensures)
 
 pub frame_bytes-used-requires : goal.frame_bytes-used-requires
-frame_bytes-used-requires c = let few = (fitting (goal.at.frame_bytes-used-requires c).In_default).few in omega arith
+frame_bytes-used-requires c = let few = (fitting (goal.at.frame_bytes-used-requires c).In_ok-judge_memory).few in omega arith
 
 pub returns-then-frame-used : goal.returns-then-frame-used
 unfolding write_outcome frame_after
-returns-then-frame-used c = refused_all NoRoom _ _ (no_room _ _ _ (passes (goal.at.returns-then-frame-used c).In_default) (rw c.frame_bytes-used.ensures.0 at c.if-frame-used.true))
+returns-then-frame-used c = refused_all NoRoom _ _ (no_room _ _ _ c.in_ok-judge_memory.ensures (rw c.frame_bytes-used.ensures.0 at c.if-frame-used.true))
 
 pub write_table-requires : goal.write_table-requires
 unfolding frame_bytes
 write_table-requires c =
-    let a = fitting (goal.at.write_table-requires c).In_default in
+    let a = fitting (goal.at.write_table-requires c).In_ok-judge_memory in
     let few = a.few in
     let held = a.held in
     let room = rw c.frame_bytes-used.ensures.0 at c.if-frame-used.false in
@@ -49,5 +44,5 @@ write_table-requires c =
 pub returns : goal.returns
 returns c =
     let f = c.args.frame.now in
-    let e = write_gives _ _ _ _ (passes (goal.at.returns c).In_default) (rw c.frame_bytes-used.ensures.0 at c.if-frame-used.false) in
+    let e = write_gives _ _ _ _ c.in_ok-judge_memory.ensures (rw c.frame_bytes-used.ensures.0 at c.if-frame-used.false) in
     (rw c.frame_bytes-used.ensures.0 e, write_done _ _ _ f _ e c.write_table.ensures)
