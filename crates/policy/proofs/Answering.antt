@@ -1,29 +1,27 @@
 -- The outcome of the call, case by case, and that its promise admits one answer only: the outcome gives the answer, and the records and the lent room
 -- give what is in the lent room at the end. Assumes nothing.
 use Prim.Native.Nat.{ℕ, pred, ◌-◌, ◌*◌, ◌<◌, ◌≤◌}
-use mathlib.Core.Path.{◌≡◌, refl, sym, ap, ap₂, ◌∙◌}
+use mathlib.Core.Path.{◌≡◌, refl, sym, ap, ap₂, subst₂, ◌∙◌}
 use mathlib.Core.List.{List, [], ◌∷◌}
 use native.Mathlib.Omega.{arith}
 use native.Mathlib.Numerals.{sub-one}
 use lib.ListN.{length}
-use lib.Dec.{ltb}
-use borrow.Author.Tests.{lt-ltb, le-ltb}
+use Rattle.std.specs.Prelude.{Result, Ok, Err}
 use Rattle.packets.specs.declared.refusal.Refusal.{Refusal}
 use Rattle.packets.specs.declared.refusal.Refusal.TheVariants.{NoRoom}
-use Rattle.packets.specs.Outcome.{gives, refuses, ◌when◌else◌, refusal_of}
+use Rattle.packets.specs.Outcome.{gives, refusal_of}
 use Rattle.packets.specs.Records.{memory_tests, Accepted}
 use Rattle.packets.proofs.Records.{accepted_memory}
-use Rattle.packets.proofs.Outcomes.{refused_then, passed_then, refused_leaves, given_leaves}
-use Rattle.packets.proofs.Answers.{refusal_one, refusal_gives}
-use Rattle.policy.specs.declared.RatesAnswer.{RatesAnswer}
-use Rattle.policy.specs.declared.RatesAnswer.TheVariants.{Rated, Refused}
+use Rattle.packets.proofs.Outcomes.{refused_then, refused_leaves, given_leaves, no_room, has_room}
+use Rattle.packets.proofs.Answers.{answer_one}
+use Rattle.policy.specs.declared.RatesSize.{RatesSize}
+use Rattle.policy.specs.declared.rates.Rates.{Rates}
 use Rattle.policy.specs.Points.{points_of, epochs_of}
 use Rattle.policy.specs.Rounds.{outcome_of}
+use Rattle.policy.specs.Answer.{epoch_rate_of, given_at, rates_answer_of, epoch_numbers, epoch_rows, epoch_count, rates_of, rates_outcome, overwritten, rates_after, EpochsRated}
 use Rattle.policy.specs.declared.EpochRate.{EpochRate}
 use Rattle.policy.specs.declared.EpochRate.TheVariants.{Silent, Carries}
-use Rattle.policy.specs.Answer.{epoch_rate_of, rates_answer_of, epoch_numbers, epoch_rows, epoch_count, rates_of, rates_outcome, overwritten, rates_after, EpochsRated}
-use Rattle.policy.specs.Steps as Steps
-use Rattle.policy.specs.Steps.{given_in}
+use Rattle.policy.specs.Steps.{Rated}
 use Rattle.policy.proofs.Rows.{rows_same}
 use Rattle.policy.proofs.Turning.{point_at}
 
@@ -31,31 +29,30 @@ use Rattle.policy.proofs.Turning.{point_at}
 
 -- the tests refuse
 pub tests_refuse : (count : ℕ) (records lent : List ℕ) (refusal : Refusal) → refusal_of refusal ≡ memory_tests count records
-    → EpochsRated count records lent (Refused refusal) lent
+    → EpochsRated count records lent (Err refusal) lent
 unfolding rates_after rates_outcome
 tests_refuse count records lent refusal h =
     let e : refusal_of refusal ≡ rates_outcome count records (length lent) = sym (refused_then refusal _ h) in
     record { answer_is = e; exit_is = sym (refused_leaves refusal (overwritten (rates_of count records) lent) lent e) }
 
-module _ (count : ℕ) (records : List ℕ) (accepted : Accepted count records) (lent : List ℕ) where
-  -- the tests pass
-  passed : rates_outcome count records (length lent)
-      ≡ (refuses 8 0 when ltb (length lent) (epoch_numbers * epoch_count count records) else gives (epoch_count count records ∷ (outcome_of count records).rounds ∷ []))
-  unfolding rates_outcome
-  passed = passed_then _ (sym (accepted_memory count records accepted))
+-- what holds of packets that are kept as they were lent
+pub kept_rated : {count count' : ℕ} {records records' lent exit : List ℕ} {answer : Result RatesSize Refusal} → (count' ≡ count) × (records' ≡ records)
+    → EpochsRated count' records' lent answer exit → EpochsRated count records lent answer exit
+kept_rated {lent = lent} {exit = exit} {answer = answer} kept r = subst₂ (λ (n : ℕ) (l : List ℕ). EpochsRated n l lent answer exit) kept.0 kept.1 r
 
+module _ (count : ℕ) (records : List ℕ) (accepted : Accepted count records) (lent : List ℕ) where
   -- too little room
-  pub no_room : length lent < epoch_numbers * epoch_count count records → EpochsRated count records lent (Refused NoRoom) lent
+  pub short_of_room : length lent < epoch_numbers * epoch_count count records → EpochsRated count records lent (Err NoRoom) lent
   unfolding rates_after
-  no_room h = record { answer_is = short; exit_is = sym (refused_leaves NoRoom (overwritten (rates_of count records) lent) lent short) }
+  short_of_room h = record { answer_is = short; exit_is = sym (refused_leaves NoRoom (overwritten (rates_of count records) lent) lent short) }
     where
       short : refusal_of NoRoom ≡ rates_outcome count records (length lent)
-      short = sym (passed ∙ unfold ◌when◌else◌ in rw (lt-ltb (length lent) (epoch_numbers * epoch_count count records) h) refl)
+      short = unfold rates_outcome in no_room _ _ _ (sym (accepted_memory count records accepted)) h
 
   -- room enough
   pub room_enough : (epochs rounds : ℕ) (exit : List ℕ) → epochs ≡ epoch_count count records → rounds ≡ (outcome_of count records).rounds
       → epoch_numbers * epochs ≤ length lent → exit ≡ overwritten (rates_of count records) lent
-      → EpochsRated count records lent (Rated epochs rounds) exit
+      → EpochsRated count records lent (Ok (record { epochs = epochs; rounds = rounds })) exit
   unfolding rates_after
   room_enough epochs rounds exit p q h e =
       record { answer_is = enough; exit_is = e ∙ sym (given_leaves (overwritten (rates_of count records) lent) lent enough) }
@@ -63,41 +60,37 @@ module _ (count : ℕ) (records : List ℕ) (accepted : Accepted count records) 
       enough : gives (epochs ∷ rounds ∷ []) ≡ rates_outcome count records (length lent)
       enough =
           ap₂ (λ (x y : ℕ). gives (x ∷ y ∷ [])) p q ∙
-          sym (passed ∙ unfold ◌when◌else◌ in rw (le-ltb (length lent) (epoch_numbers * epoch_count count records) (omega (arith, h, p))) refl)
+          unfold rates_outcome in has_room _ _ _ (sym (accepted_memory count records accepted)) (omega (arith, h, p))
 
 -- the rows in the arrays are the rows of the list
-pub rows_are : (count : ℕ) (records : List ℕ) → Accepted count records → (n : ℕ) (points packet_n packet_d epoch_n epoch_d : List ℕ) (rounds : ℕ)
-    → Steps.Rated count records n points packet_n packet_d epoch_n epoch_d rounds
-    → (n - 1 ≡ epoch_count count records) × (epoch_rows points (given_in epoch_n epoch_d) (n - 1) ≡ rates_of count records)
-unfolding epoch_count epochs_of rates_of given_in
-rows_are count records accepted n points pn pd en ed rounds r = (
+pub rows_are : (count : ℕ) (records : List ℕ) → Accepted count records → (rates : Rates) → Rated count records rates
+    → (rates.points.count - 1 ≡ epoch_count count records) × (epoch_rows rates.points.at (given_at rates.epochs) (rates.points.count - 1) ≡ rates_of count records)
+unfolding epoch_count epochs_of rates_of
+rows_are count records accepted rates r = (
   count_is,
-  rows_same points (points_of count records) (given_in en ed) (outcome_of count records).epoch (n - 1)
-      (λ i h. point_at count records accepted n points r.points_are r.n_is i (omega (arith, h)))
+  rows_same rates.points.at (points_of count records) (given_at rates.epochs) (outcome_of count records).epoch (rates.points.count - 1)
+      (λ i h. point_at count records accepted rates.points.count rates.points.at r.points_are r.n_is i (omega (arith, h)))
       (λ i h. r.epochs_are i (omega (arith, h))) ∙
       ap (epoch_rows (points_of count records) (outcome_of count records).epoch) count_is,
 )
   where
-    count_is : n - 1 ≡ pred (length (points_of count records))
-    count_is = sub-one n ∙ ap pred r.n_is
+    count_is : rates.points.count - 1 ≡ pred (length (points_of count records))
+    count_is = sub-one rates.points.count ∙ ap pred r.n_is
 
 -- ## One answer only
 
 -- an answer is known by its values
-pub rates_answer_one : (a b : RatesAnswer) → rates_answer_of a ≡ rates_answer_of b → a ≡ b
-rates_answer_one (Rated n r) (Rated m s) e = let f : n ≡ m = cc in let g : r ≡ s = cc in cc
-rates_answer_one (Rated n r) (Refused s) e = refusal_gives s (n ∷ r ∷ []) (sym e)
-rates_answer_one (Refused r) (Rated n s) e = refusal_gives r (n ∷ s ∷ []) e
-rates_answer_one (Refused r) (Refused s) e = ap Refused (refusal_one r s e)
+pub rates_answer_one : (a b : Result RatesSize Refusal) → rates_answer_of a ≡ rates_answer_of b → a ≡ b
+rates_answer_one = answer_one _ (λ (a : RatesSize) (b : RatesSize) e. let f : a.epochs ≡ b.epochs = cc in let g : a.rounds ≡ b.rounds = cc in ap₂ (λ (epochs : ℕ) (rounds : ℕ). record { epochs = epochs; rounds = rounds }) f g)
 
 -- the promise of the call admits one answer, and one content of the lent room
-pub epochs_rated_once : (count : ℕ) (records lent : List ℕ) (a b : RatesAnswer) (x y : List ℕ)
+pub epochs_rated_once : (count : ℕ) (records lent : List ℕ) (a b : Result RatesSize Refusal) (x y : List ℕ)
     → EpochsRated count records lent a x → EpochsRated count records lent b y → (a ≡ b) × (x ≡ y)
 epochs_rated_once count records lent a b x y p q =
     (rates_answer_one a b (p.answer_is ∙ sym q.answer_is), p.exit_is ∙ sym q.exit_is)
 
 -- a refusal changes nothing in the lent room
-pub rates_undone : (count : ℕ) (records lent exit : List ℕ) (refusal : Refusal) → EpochsRated count records lent (Refused refusal) exit → exit ≡ lent
+pub rates_undone : (count : ℕ) (records lent exit : List ℕ) (refusal : Refusal) → EpochsRated count records lent (Err refusal) exit → exit ≡ lent
 unfolding rates_after
 rates_undone count records lent exit refusal p = p.exit_is ∙ refused_leaves refusal _ lent p.answer_is
 

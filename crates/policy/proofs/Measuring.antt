@@ -1,4 +1,4 @@
--- What a sweep carries is what the definition measures: the bytes due up to a place are the load up to its point, and the seconds left between two places are
+-- What a sweep carries is what the definition measures: the bytes due by a deadline are the load up to it, and the seconds left between two places are
 -- the length between their points. Points rise, so that places stand to each other as their points do. Assumes nothing.
 use Prim.Native.Nat.{ℕ, zero, suc, ◌+◌, ◌-◌, ◌<◌, ◌≤◌}
 use mathlib.Core.Path.{◌≡◌, refl, sym, ap, ◌∙◌}
@@ -14,13 +14,15 @@ use Rattle.policy.specs.Rounds.{Day, Progress, load, len}
 use Rattle.policy.specs.Steps.{counted_from}
 use Rattle.policy.proofs.Sums.{sum_eq, sum_cut}
 
--- the packets and epochs of the day, what is left of them, and the places of the deadlines among the points
-pub record Ground (day : Day) (done : Progress) (count : ℕ) (from rest place : List ℕ) (n : ℕ) (points : List ℕ) (room : ℕ → ℕ) : Type 0 where
+-- the packets of the day, and what is left of them
+pub record PacketsLeft (day : Day) (done : Progress) (count : ℕ) (from till rest : ℕ → ℕ) : Type 0 where
   pub count_is : count ≡ day.packets.count
-  pub from_is : (i : ℕ) → i < count → get_or from i 0 ≡ day.packets.from i
-  pub rest_is : (i : ℕ) → i < count → get_or rest i 0 ≡ only_if (unassigned (done.packet i)) (day.packets.weight i)
-  pub place_in : (i : ℕ) → i < count → get_or place i 0 < n
-  pub place_is : (i : ℕ) → i < count → get_or points (get_or place i 0) 0 ≡ day.packets.till i
+  pub from_is : (i : ℕ) → i < count → from i ≡ day.packets.from i
+  pub till_is : (i : ℕ) → i < count → till i ≡ day.packets.till i
+  pub rest_is : (i : ℕ) → i < count → rest i ≡ only_if (unassigned (done.packet i)) (day.packets.weight i)
+
+-- the points, the epochs of the day between them, and what is left of these
+pub record EpochsLeft (day : Day) (done : Progress) (n : ℕ) (points : List ℕ) (room : ℕ → ℕ) : Type 0 where
   pub n_is : n ≡ suc day.epochs.count
   pub rising : (j k : ℕ) → j < k → k < n → get_or points j 0 < get_or points k 0
   pub epoch_from : (k : ℕ) → k < day.epochs.count → get_or points k 0 ≡ day.epochs.from k
@@ -76,7 +78,23 @@ two true false v = refl
 two false true v = refl
 two false false v = refl
 
-module _ (day : Day) (done : Progress) (count : ℕ) (from rest place : List ℕ) (n : ℕ) (points : List ℕ) (room : ℕ → ℕ) (ground : Ground day done count from rest place n points room) where
+-- the bytes of the packets that are due by e and arrive from s on are the load
+pub load_carried : (day : Day) (done : Progress) (count : ℕ) (from till rest : ℕ → ℕ) → PacketsLeft day done count from till rest → (s e : ℕ)
+    → sum count (λ i. only_if (leb (till i) e) (counted_from s (from i) (rest i))) ≡ load day done s e
+unfolding load left counted_from inside
+load_carried day done count from till rest p s e =
+    sum_eq count _ _ one ∙
+    ap (λ (k : ℕ). sum k (λ i. only_if (unassigned (done.packet i) && (leb s (day.packets.from i) && leb (day.packets.till i) e)) (day.packets.weight i)))
+    p.count_is
+  where
+    one : (i : ℕ) → i < count
+        → only_if (leb (till i) e) (only_if (leb s (from i)) (rest i))
+        ≡ only_if (unassigned (done.packet i) && (leb s (day.packets.from i) && leb (day.packets.till i) e)) (day.packets.weight i)
+    one i q =
+        rw (p.till_is i q, p.from_is i q, p.rest_is i q)
+        (three (leb (day.packets.till i) e) (leb s (day.packets.from i)) (unassigned (done.packet i)) (day.packets.weight i))
+
+module _ (day : Day) (done : Progress) (n : ℕ) (points : List ℕ) (room : ℕ → ℕ) (ground : EpochsLeft day done n points room) where
   -- a place is not after another exactly where its point is not
   place_le : (j k : ℕ) → j < n → k < n → ltb j (suc k) ≡ leb (get_or points j 0) (get_or points k 0)
   place_le j k h g = go (dec_lt j (suc k))
@@ -88,22 +106,6 @@ module _ (day : Day) (done : Progress) (count : ℕ) (from rest place : List ℕ
           upto (yes e) = omega (arith, ap (λ (i : ℕ). get_or points i 0) e)
           upto (no e) = omega (arith, ground.rising j k (omega (arith, e)) g)
       go (no p) = le-ltb j (suc k) (omega (arith, p)) ∙ sym (lt-leb _ _ (ground.rising k j (omega (arith, p)) h))
-
-  -- the bytes due up to a place are the load up to its point
-  pub load_carried : (s b : ℕ) → b < n
-      → sum count (λ i. only_if (ltb (get_or place i 0) (suc b)) (counted_from s (get_or from i 0) (get_or rest i 0))) ≡ load day done s (get_or points b 0)
-  unfolding load left counted_from inside
-  load_carried s b h =
-      sum_eq count _ _ one ∙
-      ap (λ (k : ℕ). sum k (λ i. only_if (unassigned (done.packet i) && (leb s (day.packets.from i) && leb (day.packets.till i) (get_or points b 0))) (day.packets.weight i)))
-      ground.count_is
-    where
-      one : (i : ℕ) → i < count
-          → only_if (ltb (get_or place i 0) (suc b)) (only_if (leb s (get_or from i 0)) (get_or rest i 0))
-          ≡ only_if (unassigned (done.packet i) && (leb s (day.packets.from i) && leb (day.packets.till i) (get_or points b 0))) (day.packets.weight i)
-      one i q =
-          rw (place_le (get_or place i 0) b (ground.place_in i q) h, ground.place_is i q, ground.from_is i q, ground.rest_is i q)
-          (three (leb (day.packets.till i) (get_or points b 0)) (leb s (day.packets.from i)) (unassigned (done.packet i)) (day.packets.weight i))
 
   -- the seconds left between two places are the length between their points
   pub len_carried : (a b : ℕ) → a < n → b < n → sum b room - sum a room ≡ len day done (get_or points a 0) (get_or points b 0)

@@ -8,7 +8,7 @@ use native.Mathlib.Omega.{arith}
 use native.Mathlib.Decide.{dec_le}
 use native.Mathlib.Nat.{mul-le-mul_right, eq_of_mul-eq-mul_right, lt_of_mul-lt-mul_right}
 use lib.Dec.{eqb, ltb}
-use borrow.Author.Tests.{ltb-true, eqb-true, lt-ltb, le-ltb, eq-eqb}
+use borrow.Author.Tests.{ltb-true, eqb-true, lt-ltb, le-ltb, eq-eqb, ne_eqb}
 use Rattle.policy.specs.Rounds.{ahead}
 use Rattle.policy.proofs.Left.{both, not_both_ways}
 
@@ -163,9 +163,27 @@ pub behind_density : (x y : Figures) → Behind x y → x.load * y.len ≤ y.loa
 behind_density x y (inl p) = omega arith
 behind_density x y (inr (p, t)) = omega arith
 
+-- densities that differ decide
+pub denser_first : (x y : Figures) → (y.load * x.len ≡ x.load * y.len → ⊥) → ltb (y.load * x.len) (x.load * y.len) ≡ before x y
+denser_first x y p = rw (ne_eqb (y.load * x.len) (x.load * y.len) p) (alone (ltb (y.load * x.len) (x.load * y.len)))
+  where
+    alone : (a : Bool) → a ≡ (a || false)
+    alone true = refl
+    alone false = refl
+
+-- equally dense: starts that differ decide
+pub earlier_first : (x y : Figures) → y.load * x.len ≡ x.load * y.len → (x.start ≡ y.start → ⊥) → ltb x.start y.start ≡ before x y
+earlier_first x y p q =
+    rw (le-ltb (y.load * x.len) (x.load * y.len) (omega (arith, p)), eq-eqb (y.load * x.len) (x.load * y.len) p, ne_eqb x.start y.start q)
+    (alone (ltb x.start y.start))
+  where
+    alone : (a : Bool) → a ≡ (a || false)
+    alone true = refl
+    alone false = refl
+
 -- equally dense with one start: the ends decide
-pub tied : (x y : Figures) → y.load * x.len ≡ x.load * y.len → x.start ≡ y.start → ltb y.end x.end ≡ before x y
-tied x y p q =
+pub later_end_first : (x y : Figures) → y.load * x.len ≡ x.load * y.len → x.start ≡ y.start → ltb y.end x.end ≡ before x y
+later_end_first x y p q =
     rw (
       le-ltb (y.load * x.len) (x.load * y.len) (omega (arith, p)),
       eq-eqb (y.load * x.len) (x.load * y.len) p,

@@ -4,11 +4,10 @@ use mathlib.Core.Path.{◌≡◌, refl, sym, ap, ap₂, subst, ◌∙◌}
 use mathlib.Core.List.{List, [], ◌∷◌, ◌++◌}
 use native.Mathlib.Omega.{arith}
 use native.Mathlib.Numerals.{add-one, add-two, add-three}
-use lib.ListN.{length, get_or, drop, set, length-append, length-drop}
+use lib.ListN.{length, get_or, drop, set, length-append}
 use lib.Seq.{drop-cons}
 use Rattle.policy.specs.Windows.{Given}
 use Rattle.policy.specs.Answer.{epoch_numbers, epoch_rows, shown_n, shown_d, overwritten}
-use Rattle.policy.specs.Steps.{given_in}
 
 -- three numbers in a row
 row_set : (xs : List ℕ) (y₀ y₁ y₂ : ℕ) (ys : List ℕ) (u v w : ℕ)
@@ -39,46 +38,39 @@ rows_length points given (suc k) =
     length-append (epoch_rows points given k) (get_or points k 0 ∷ shown_n (given k) ∷ shown_d (given k) ∷ []) ∙ omega (arith, rows_length points given k)
 
 -- the rows of the first k epochs are written
-pub record RowsSoFar (points n d lent rates : List ℕ) (k at : ℕ) : Type 0 where
-  pub at_is : at ≡ epoch_numbers * k
-  pub is : rates ≡ epoch_rows points (given_in n d) k ++ drop at lent
+pub record RowsSoFar (points : List ℕ) (given : ℕ → Given) (lent rates : List ℕ) (k : ℕ) : Type 0 where
+  pub is : rates ≡ epoch_rows points given k ++ drop (epoch_numbers * k) lent
 
-pub rows_first : (points n d lent : List ℕ) → RowsSoFar points n d lent lent 0 0
+pub rows_first : (points : List ℕ) (given : ℕ → Given) (lent : List ℕ) → RowsSoFar points given lent lent 0
 unfolding epoch_rows
-rows_first points n d lent = record { at_is = refl; is = refl }
-
--- the length stays
-pub rows_long : (points n d lent rates : List ℕ) (k at : ℕ) → RowsSoFar points n d lent rates k at → at ≤ length lent → length rates ≡ length lent
-rows_long points n d lent rates k at s h =
-    ap length s.is ∙ length-append (epoch_rows points (given_in n d) k) (drop at lent) ∙
-    omega (arith, rows_length points (given_in n d) k, length-drop at lent, s.at_is)
+rows_first points given lent = record { is = refl }
 
 -- one row more
-pub rows_next : (points n d lent rates : List ℕ) (k at v w : ℕ) → RowsSoFar points n d lent rates k at → at + 3 ≤ length lent
-    → v ≡ shown_n (given_in n d k) → w ≡ shown_d (given_in n d k)
-    → RowsSoFar points n d lent (set (set (set rates at (get_or points k 0)) (at + 1) v) (at + 2) w) (k + 1) (at + 3)
-rows_next points n d lent rates k at v w s h p q =
+pub rows_next : (points : List ℕ) (given : ℕ → Given) (lent rates : List ℕ) (k v w : ℕ) → RowsSoFar points given lent rates k
+    → epoch_numbers * (k + 1) ≤ length lent → v ≡ shown_n (given k) → w ≡ shown_d (given k)
+    → RowsSoFar points given lent (set (set (set rates (epoch_numbers * k) (get_or points k 0)) (epoch_numbers * k + 1) v) (epoch_numbers * k + 2) w) (k + 1)
+rows_next points given lent rates k v w s h p q =
     record {
-      at_is = omega (arith, s.at_is);
       is =
           ap (λ (l : List ℕ). set (set (set l at (get_or points k 0)) (at + 1) v) (at + 2) w) s.is ∙
-          row_written (epoch_rows points (given_in n d) k) lent at (get_or points k 0) v w (rows_length points (given_in n d) k ∙ sym s.at_is) h ∙
-          ap (λ (l : List ℕ). l ++ drop (at + 3) lent) more;
+          row_written (epoch_rows points given k) lent at (get_or points k 0) v w (rows_length points given k) (omega (arith, h)) ∙
+          ap₂ (λ (l : List ℕ) (b : ℕ). l ++ drop b lent) more behind;
     }
   where
-    more : epoch_rows points (given_in n d) k ++ (get_or points k 0 ∷ v ∷ w ∷ []) ≡ epoch_rows points (given_in n d) (k + 1)
-    more =
-        rw add-one
-        (unfold epoch_rows in ap₂ (λ (x y : ℕ). epoch_rows points (given_in n d) k ++ (get_or points k 0 ∷ x ∷ y ∷ [])) p q)
+    at : ℕ
+    at = epoch_numbers * k
+
+    behind : at + 3 ≡ epoch_numbers * (k + 1)
+    behind = omega arith
+
+    more : epoch_rows points given k ++ (get_or points k 0 ∷ v ∷ w ∷ []) ≡ epoch_rows points given (k + 1)
+    more = rw add-one (unfold epoch_rows in ap₂ (λ (x y : ℕ). epoch_rows points given k ++ (get_or points k 0 ∷ x ∷ y ∷ [])) p q)
 
 -- all rows
-pub rows_last : (points n d lent rates : List ℕ) (k at epochs : ℕ) → RowsSoFar points n d lent rates k at → k ≡ epochs
-    → rates ≡ overwritten (epoch_rows points (given_in n d) epochs) lent
+pub rows_last : (points : List ℕ) (given : ℕ → Given) (lent rates : List ℕ) (epochs : ℕ) → RowsSoFar points given lent rates epochs
+    → rates ≡ overwritten (epoch_rows points given epochs) lent
 unfolding overwritten
-rows_last points n d lent rates k at epochs s e =
-    s.is ∙
-    ap₂ (λ (i a : ℕ). epoch_rows points (given_in n d) i ++ drop a lent) e
-    (s.at_is ∙ ap (λ (i : ℕ). epoch_numbers * i) e ∙ sym (rows_length points (given_in n d) epochs))
+rows_last points given lent rates epochs s = s.is ∙ ap (λ (a : ℕ). epoch_rows points given epochs ++ drop a lent) (sym (rows_length points given epochs))
 
 -- rows go by the points and by what was given
 pub rows_same : (points points' : List ℕ) (given given' : ℕ → Given) (k : ℕ) → ((i : ℕ) → i < k → get_or points i 0 ≡ get_or points' i 0)

@@ -1,76 +1,71 @@
 -- The rounds of the code are those of the definition: what is set up makes the board of the sweep, one turn is one round, and a turn without a leader
 -- changes nothing more. Assumes nothing.
 use Prim.Native.Nat.{ℕ, zero, suc, pred, ◌+◌, ◌-◌, ◌<◌, ◌≤◌}
-use mathlib.Core.Path.{◌≡◌, refl, sym, ap, ap₂, subst, subst₂, ◌∙◌}
+use mathlib.Core.Path.{◌≡◌, refl, sym, ap, ap₂, subst, ◌∙◌}
 use mathlib.Core.Bool.{Bool, true, false, ◌&&◌}
 use mathlib.Core.List.{List}
 use native.Mathlib.Omega.{arith}
 use native.Mathlib.Decide.{dec_lt, ℕ_discrete}
-use native.Mathlib.Numerals.{sub-one, add-one}
-use lib.ListN.{length, get_or, take}
+use native.Mathlib.Numerals.{add-one}
+use lib.ListN.{length, get_or, get_or-replicate, replicate, take}
 use lib.Seq.{get_or-take}
-use lib.Dec.{eqb, leb}
-use borrow.Author.Tests.{eq-eqb, ne_eqb}
+use lib.Dec.{leb}
+use Rattle.std.specs.Prelude.{Option, Some, None, slice_index_or}
 use Rattle.packets.specs.Records.{size_of, arrival_of, deadline_of, Accepted}
 use Rattle.packets.specs.Limits.{air_bytes}
+use Rattle.fractions.specs.declared.Rate.{Rate}
 use Rattle.fractions.specs.Fraction.{lowest_n, lowest_d}
-use Rattle.fractions.proofs.LowestTerms.{lowest_d_positive}
 use Rattle.policy.specs.declared.densest.Leader.{Leader}
-use Rattle.policy.specs.Windows.{Windows, Given, rate, unassigned, inside, only_if, choose, assign}
+use Rattle.policy.specs.declared.densest.Left.{Left}
+use Rattle.policy.specs.declared.points.Points.{Points}
+use Rattle.policy.specs.declared.rates.Gifts.{Gifts}
+use Rattle.policy.specs.declared.row.Due.{Due}
+use Rattle.policy.specs.declared.setup.Setup.{Setup}
+use Rattle.policy.specs.declared.spans.Spans.{Spans}
+use Rattle.policy.specs.Windows.{Windows, Given, unassigned, inside, only_if, choose, assign, sum}
+use Rattle.policy.specs.Windows as Windows
 use Rattle.policy.specs.Points.{points_of, packets_of, epochs_of}
 use Rattle.policy.specs.Rounds.{Day, Progress, at_first, load, len, nowhere, between, pick, give_rate, taken, round_of, round, after, day_of, outcome_of}
-use Rattle.policy.specs.Steps.{Spanned, neighbours, left_over, Left, fresh, chosen, Shared, Before, Placed, Gathered, Passed, counted_from, due_to, given_of, SetUp, Rated, Ready, LeaderIs, Taken}
-use Rattle.policy.proofs.Sums.{sum_eq, sum_most}
-use Rattle.policy.proofs.Left.{only_if_most}
-use Rattle.policy.proofs.Filling.{left_over_most}
+use Rattle.policy.specs.Answer.{given_of, given_at}
+use Rattle.policy.specs.Ranges.{Ready, due_at, span_at}
+use Rattle.policy.specs.Steps.{Spanned, neighbours, left_over, left_at, lies_inside, after_gift, Shared, Before, Passed, counted_from, due_to, SetUp, LeaderIs, Taken, Rated}
+use Rattle.policy.proofs.Sums.{sum_eq}
 use Rattle.policy.proofs.EventPoints.{Has, points_rising, points_arrival, points_deadline, points_few, rising_at}
 use Rattle.policy.proofs.Accepting.{proper, points_today, air_most}
-use Rattle.policy.proofs.Ending.{after_facts}
-use Rattle.policy.proofs.Measuring.{Ground, load_carried, len_carried}
+use Rattle.policy.proofs.Ending.{after_facts, rounds_few}
+use Rattle.policy.proofs.Measuring.{PacketsLeft, EpochsLeft, load_carried, len_carried}
 use Rattle.policy.proofs.Leading.{Board, no_leader, leader_picked}
 use Rattle.policy.proofs.Facts.{Facts}
 
--- ## What D of 0 means
+-- ## What was given
 
-unassigned_is : (n d : ℕ) → unassigned (given_of n d) ≡ eqb d 0
-unfolding given_of unassigned
-unassigned_is n zero = sym (eq-eqb 0 0 refl)
-unassigned_is n (suc d) = sym (ne_eqb (suc d) 0 (λ e. omega (arith, e)))
+-- the gifts stand for what was given
+pub record Agrees (day : Day) (done : Progress) (gifts : Gifts) : Type 0 where
+  pub packets : (i : ℕ) → i < day.packets.count → given_at gifts.packets i ≡ done.packet i
+  pub epochs : (k : ℕ) → k < day.epochs.count → given_at gifts.epochs k ≡ done.epoch k
 
-pub given_rate : (n d : ℕ) → 0 < d → given_of n d ≡ rate n d
-unfolding given_of
-given_rate n zero h = absurd (omega arith)
-given_rate n (suc d) h = refl
-
-given_chosen : (t : Bool) (n d n' d' : ℕ) → given_of (chosen t n n') (chosen t d d') ≡ choose t (given_of n d) (given_of n' d')
-unfolding chosen choose
-given_chosen true n d n' d' = refl
-given_chosen false n d n' d' = refl
-
--- the shares stand for what was given
-pub record Agrees (day : Day) (done : Progress) (packet_n packet_d epoch_n epoch_d : List ℕ) : Type 0 where
-  pub packets : (i : ℕ) → i < day.packets.count → given_of (get_or packet_n i 0) (get_or packet_d i 0) ≡ done.packet i
-  pub epochs : (k : ℕ) → k < day.epochs.count → given_of (get_or epoch_n k 0) (get_or epoch_d k 0) ≡ done.epoch k
-
-pub agrees_first : (day : Day) (packet_n packet_d epoch_n epoch_d : List ℕ) → day.packets.count ≤ 128 → day.epochs.count ≤ 128
-    → ((i : ℕ) → i < 128 → get_or packet_d i 0 ≡ 0) → ((i : ℕ) → i < 128 → get_or epoch_d i 0 ≡ 0)
-    → Agrees day at_first packet_n packet_d epoch_n epoch_d
+pub agrees_first : (day : Day) → day.packets.count ≤ 128 → day.epochs.count ≤ 128
+    → Agrees day at_first (record { packets = replicate 128 None; epochs = replicate 128 None })
 unfolding at_first
-agrees_first day pn pd en ed h g p q =
+agrees_first day h g =
     record {
-      packets = λ i r. rw (p i (omega arith)) (unfold given_of in refl);
-      epochs = λ k r. rw (q k (omega arith)) (unfold given_of in refl);
+      packets = λ i r. ap given_of (get_or-replicate 128 i None None (omega arith));
+      epochs = λ k r. ap given_of (get_or-replicate 128 k None None (omega arith));
     }
 
+given_chosen : (t : Bool) (rate : Rate) (had : Option Rate) → given_of (choose t (Some rate) had) ≡ choose t (Windows.rate rate.n rate.d) (given_of had)
+unfolding choose
+given_chosen true rate had = refl
+given_chosen false rate had = refl
+
 -- one gift is one assignment
-gift_assigns : (w : Windows) (g : ℕ → Given) (from till n d n' d' : List ℕ) (s e N D i : ℕ) → i < w.count → 0 < D
-    → get_or from i 0 ≡ w.from i → get_or till i 0 ≡ w.till i → given_of (get_or n i 0) (get_or d i 0) ≡ g i
-    → Shared w.count from till n d s e N D n' d' → given_of (get_or n' i 0) (get_or d' i 0) ≡ assign w s e N D g i
-unfolding assign inside fresh
-gift_assigns w g from till n d n' d' s e N D i h pos f t old sh =
-    ap₂ given_of (sh.n_is i h) (sh.d_is i h) ∙
-    given_chosen (eqb (get_or d i 0) 0 && (leb s (get_or from i 0) && leb (get_or till i 0) e)) N D (get_or n i 0) (get_or d i 0) ∙
-    (λ k. choose ((sym (unassigned_is (get_or n i 0) (get_or d i 0)) ∙ ap unassigned old) k && (leb s (f k) && leb (t k) e)) (given_rate N D pos k) (old k))
+gift_assigns : (w : Windows) (g : ℕ → Given) (spans : Spans) (rates rates' : List (Option Rate)) (s e : ℕ) (rate : Rate) (i : ℕ) → i < w.count
+    → Spanned w spans → given_at rates i ≡ g i → Shared spans rates s e rate rates' → given_at rates' i ≡ assign w s e rate.n rate.d g i
+unfolding assign inside after_gift lies_inside
+gift_assigns w g spans rates rates' s e rate i h set old shared =
+    ap given_of (shared.is i (omega (arith, h, set.count_is))) ∙
+    given_chosen (unassigned (given_at rates i) && (leb s (span_at spans.at i).from && leb (span_at spans.at i).till e)) rate (slice_index_or rates i None) ∙
+    (λ k. choose (unassigned (old k) && (leb s (set.from_is i h k) && leb (set.till_is i h k) e)) (Windows.rate rate.n rate.d) (old k))
 
 -- ## When there is no more to take
 
@@ -82,54 +77,7 @@ rests day r h (suc m) p = go (ℕ_discrete r (suc m)) (rests day r h m)
     go (yes q) rest = ap (after day) (sym q)
     go (no q) rest = unfold after in (ap (round day) (rest (omega (arith, q))) ∙ h)
 
--- ## Ranges
-
--- epochs between neighbouring points, as they were set up
-pub epochs_set : (n : ℕ) (points from ends seconds : List ℕ) → Spanned (neighbours (n - 1) points) from ends seconds
-    → Spanned (neighbours (pred n) points) points ends seconds
-unfolding neighbours
-epochs_set n points from ends seconds s =
-    record {
-      from_is = λ k h. refl;
-      till_is = λ k h. s.till_is k (less k h);
-      weight_is = λ k h. s.weight_is k (less k h);
-    }
-  where
-    less : (k : ℕ) → k < pred n → k < n - 1
-    less k h = omega arith
-
--- one less, as the code and as the definitions have it
-pub shared_one_less : (n : ℕ) (from till n₀ d₀ : List ℕ) (s e N D : ℕ) (n' d' : List ℕ) → Shared (n - 1) from till n₀ d₀ s e N D n' d'
-    → Shared (pred n) from till n₀ d₀ s e N D n' d'
-shared_one_less n from till n₀ d₀ s e N D n' d' h = subst (λ (k : ℕ). Shared k from till n₀ d₀ s e N D n' d') (sub-one n) h
-
--- the rate by its name
-pub shared_at : (count : ℕ) (from till n₀ d₀ : List ℕ) (s e : ℕ) {N D N' D' : ℕ} (n' d' : List ℕ) → N ≡ N' → D ≡ D' → Shared count from till n₀ d₀ s e N D n' d'
-    → Shared count from till n₀ d₀ s e N' D' n' d'
-shared_at count from till n₀ d₀ s e n' d' p q h = subst₂ (λ (x y : ℕ). Shared count from till n₀ d₀ s e x y n' d') p q h
-
--- what is left of a weight is at most the weight
-pub left_most : (count most : ℕ) (weight d left : List ℕ) → ((i : ℕ) → i < count → get_or weight i 0 ≤ most) → Left count weight d left
-    → (i : ℕ) → i < count → get_or left i 0 ≤ most
-unfolding left_over
-left_most count most weight d left h l i p = omega (arith, h i p, l.is i p, only_if_most (eqb (get_or d i 0) 0) (get_or weight i 0))
-
--- what is gathered is at most what it is gathered from
-pub gathered_most : (count m most : ℕ) (values at gathered : List ℕ) → Gathered count values at gathered → ((j : ℕ) → j < count → get_or at j 0 < m)
-    → ((k : ℕ) → k < m → get_or values k 0 ≤ most) → (j : ℕ) → j < count → get_or gathered j 0 ≤ most
-gathered_most count m most values at gathered g w h j p = rw (g.is j p) (h (get_or at j 0) (w j p))
-
--- what is left before a point is within so many days
-pub passed_most : (n : ℕ) (seconds d passed : List ℕ) → n ≤ 128 → ((k : ℕ) → k < pred n → get_or seconds k 0 ≤ 86400) → Passed n seconds d passed
-    → (b : ℕ) → b < n → get_or passed b 0 ≤ 11059200
-passed_most n seconds d passed few h p b q =
-    omega (
-      arith,
-      p.is b q,
-      sum_most b 86400 (λ k. left_over (get_or d k 0) (get_or seconds k 0)) (λ k r. left_over_most (get_or d k 0) (get_or seconds k 0) _ 86400 refl (h k (omega arith))),
-    )
-
--- ## The board
+-- ## The points
 
 module _ (count : ℕ) (records : List ℕ) (accepted : Accepted count records) where
   abbrev day : Day
@@ -153,255 +101,269 @@ module _ (count : ℕ) (records : List ℕ) (accepted : Accepted count records) 
     point_rises j k h g =
         rw (point_at j (omega arith), point_at k g) (rising_at P (points_rising count records) j k h (omega (arith, n_is)))
 
-    -- the place of a point is found
-    pub place_found : (times place : List ℕ) (value : ℕ → ℕ) → ((i : ℕ) → i < count → get_or times i 0 ≡ value i) → ((i : ℕ) → i < count → Has (value i) P)
-        → Placed count times n points place → (i : ℕ) → i < count → (get_or place i 0 < n) × (get_or points (get_or place i 0) 0 ≡ value i)
-    place_found times place value value_is has placed i h = go (same (dec_lt w.0 (get_or place i 0)) (dec_lt (get_or place i 0) w.0))
+  -- ## What is set up
+
+  module _ (points : Points) (packets epochs : Spans) (row : List Due) (set : SetUp count records points packets epochs row) where
+    pub n_some : 0 < points.count
+    n_some = omega (arith, points_some, set.points_count)
+
+    pub n_most : points.count ≤ 128
+    n_most = omega (arith, points_most, set.points_count)
+
+    at : (k : ℕ) → k < points.count → get_or points.at k 0 ≡ get_or P k 0
+    at = point_at points.count points.at set.points_are set.points_count
+
+    rises : (j k : ℕ) → j < k → k < points.count → get_or points.at j 0 < get_or points.at k 0
+    rises = point_rises points.count points.at set.points_are set.points_count
+
+    packets_count : packets.count ≡ count
+    packets_count = unfold packets_of in set.packets_are.count_is
+
+    from_is : (i : ℕ) → i < count → (span_at packets.at i).from ≡ arrival_of records i
+    from_is = unfold packets_of in set.packets_are.from_is
+
+    till_is : (i : ℕ) → i < count → (span_at packets.at i).till ≡ deadline_of records i
+    till_is = unfold packets_of in set.packets_are.till_is
+
+    bytes_are : (i : ℕ) → i < count → (span_at packets.at i).weight ≡ air_bytes (size_of records i)
+    bytes_are = unfold packets_of in set.packets_are.weight_is
+
+    epochs_count : epochs.count ≡ pred points.count
+    epochs_count = unfold neighbours in set.epochs_are.count_is
+
+    seconds_are : (k : ℕ) → k < pred points.count → (span_at epochs.at k).weight ≡ get_or points.at (suc k) 0 - get_or points.at k 0
+    seconds_are = unfold neighbours in set.epochs_are.weight_is
+
+    -- the epochs are those of the list
+    epochs_here : Spanned (epochs_of P) epochs
+    unfolding epochs_of neighbours
+    epochs_here =
+        record {
+          count_is = set.epochs_are.count_is ∙ ap pred set.points_count;
+          from_is = λ k h. set.epochs_are.from_is k (within k h).2 ∙ at k (within k h).0;
+          till_is = λ k h. set.epochs_are.till_is k (within k h).2 ∙ at (suc k) (within k h).1;
+          weight_is = λ k h. set.epochs_are.weight_is k (within k h).2 ∙ ap₂ ◌-◌ (at (suc k) (within k h).1) (at k (within k h).0);
+        }
       where
-        is : Before (get_or times i 0) n points (get_or place i 0)
-        is = placed.is i h
+        within : (k : ℕ) → k < pred (length P) → (k < points.count) × (suc k < points.count) × (k < pred points.count)
+        within k h = (omega (arith, set.points_count), omega (arith, set.points_count), omega (arith, set.points_count))
 
-        w : Has (value i) P
-        w = has i h
+    -- the place of a point is found
+    place_found : (t r : ℕ) → Has t P → Before t points r → (r < points.count) × (get_or points.at r 0 ≡ t)
+    place_found t r w is = go (same (dec_lt w.0 r) (dec_lt r w.0))
+      where
+        in_points : w.0 < points.count
+        in_points = omega (arith, w.1, set.points_count)
 
-        in_points : w.0 < n
-        in_points = omega (arith, w.1, n_is)
-
-        there : get_or points w.0 0 ≡ get_or times i 0
-        there = point_at w.0 in_points ∙ w.2 ∙ sym (value_is i h)
+        there : get_or points.at w.0 0 ≡ t
+        there = at w.0 in_points ∙ w.2
 
         -- neither before it nor behind it
-        same : Dec (w.0 < get_or place i 0) → Dec (get_or place i 0 < w.0) → get_or place i 0 ≡ w.0
+        same : Dec (w.0 < r) → Dec (r < w.0) → r ≡ w.0
         same (yes p) q = absurd (omega (arith, is.below w.0 p, there))
-        same (no p) (yes q) = absurd (omega (arith, is.next (omega (arith, q, in_points)), point_rises (get_or place i 0) w.0 q in_points, there))
+        same (no p) (yes q) = absurd (omega (arith, is.next (omega (arith, q, in_points)), rises r w.0 q in_points, there))
         same (no p) (no q) = omega (arith, p, q)
 
-        go : get_or place i 0 ≡ w.0 → (get_or place i 0 < n) × (get_or points (get_or place i 0) 0 ≡ value i)
-        go e = (omega (arith, e, in_points), ap (λ (k : ℕ). get_or points k 0) e ∙ there ∙ value_is i h)
+        go : r ≡ w.0 → (r < points.count) × (get_or points.at r 0 ≡ t)
+        go e = (omega (arith, e, in_points), ap (λ (k : ℕ). get_or points.at k 0) e ∙ there)
 
-  module _ (n : ℕ) (points from till bytes ends seconds start row bounds arrivals deadlines spots : List ℕ) (setup : SetUp count records n points from till bytes ends seconds start row bounds arrivals deadlines spots) where
-    from_is : (i : ℕ) → i < count → get_or from i 0 ≡ arrival_of records i
-    from_is = unfold packets_of in setup.packets_are.from_is
+    -- where the arrivals and the deadlines stand among the points
+    packet_in : (j : ℕ) → j < packets.count → (due_at row j).packet < count
+    packet_in j h = omega (arith, (set.row_is.each j h).packet_in, packets_count)
 
-    till_is : (i : ℕ) → i < count → get_or till i 0 ≡ deadline_of records i
-    till_is = unfold packets_of in setup.packets_are.till_is
+    started : (j : ℕ) → j < packets.count → ((due_at row j).arrival_point < points.count) × (get_or points.at (due_at row j).arrival_point 0 ≡ (due_at row j).arrival)
+    started j h =
+        let d = set.row_is.each j h in
+        let e = d.arrival_is ∙ from_is _ (packet_in j h) in
+        place_found _ _ (subst (λ (t : ℕ). Has t P) (sym e) (points_arrival count records (due_at row j).packet (packet_in j h))) d.arrival_at
 
-    bytes_are : (i : ℕ) → i < count → get_or bytes i 0 ≡ air_bytes (size_of records i)
-    bytes_are = unfold packets_of in setup.packets_are.weight_is
-
-    ends_are : (k : ℕ) → k < pred n → get_or ends k 0 ≡ get_or points (suc k) 0
-    ends_are = unfold neighbours in setup.epochs_are.till_is
-
-    seconds_are : (k : ℕ) → k < pred n → get_or seconds k 0 ≡ get_or points (suc k) 0 - get_or points k 0
-    seconds_are = unfold neighbours in setup.epochs_are.weight_is
-
-    pub n_some : 0 < n
-    n_some = omega (arith, points_some, setup.n_is)
-
-    pub n_most : n ≤ 128
-    n_most = omega (arith, points_most, setup.n_is)
-
-    at : (k : ℕ) → k < n → get_or points k 0 ≡ get_or P k 0
-    at = point_at n points setup.points_are setup.n_is
-
-    abbrev place : List ℕ
-    place = setup.place
-
-    -- where the deadlines and the arrivals stand among the points
-    placed : (i : ℕ) → i < count → (get_or place i 0 < n) × (get_or points (get_or place i 0) 0 ≡ deadline_of records i)
-    placed = place_found n points setup.points_are setup.n_is till place (deadline_of records) till_is (points_deadline count records) setup.places_are
-
-    started : (i : ℕ) → i < count → (get_or start i 0 < n) × (get_or points (get_or start i 0) 0 ≡ arrival_of records i)
-    started = place_found n points setup.points_are setup.n_is from start (arrival_of records) from_is (points_arrival count records) setup.starts_are
-
-    -- a deadline along the row is that of its packet
-    row_due : (j : ℕ) → j < count → get_or deadlines j 0 ≡ get_or points (get_or place (get_or row j 0) 0) 0
-    row_due j h =
-        setup.deadlines_are.is j h ∙ till_is (get_or row j 0) (setup.row_is.within j h) ∙ sym (placed (get_or row j 0) (setup.row_is.within j h)).1
-
-    -- the points of an epoch are points
-    within : (k : ℕ) → k < pred (length P) → (k < n) × (suc k < n) × (k < pred n)
-    within k h = (omega (arith, setup.n_is), omega (arith, setup.n_is), omega (arith, setup.n_is))
-
-    whole : n ≡ suc (pred (length P))
-    whole = omega (arith, setup.n_is, points_some)
-
-    -- the ground of a round
-    ground : (done : Progress) (packet_n packet_d epoch_n epoch_d rest : List ℕ) → Agrees day done packet_n packet_d epoch_n epoch_d
-        → Left count bytes packet_d rest → Ground day done count from rest place n points (λ k. left_over (get_or epoch_d k 0) (get_or seconds k 0))
-    unfolding day_of packets_of epochs_of left_over
-    ground done pn pd en ed rest agrees rest_is =
-        record {
-          count_is = refl;
-          from_is = from_is;
-          rest_is = λ i h.
-              rest_is.is i h ∙ ap₂ only_if (sym (unassigned_is (get_or pn i 0) (get_or pd i 0)) ∙ ap unassigned (agrees.packets i h)) (bytes_are i h);
-          place_in = λ i h. (placed i h).0;
-          place_is = λ i h. (placed i h).1;
-          n_is = whole;
-          rising = point_rises n points setup.points_are setup.n_is;
-          epoch_from = λ k h. at k (within k h).0;
-          epoch_till = λ k h. at (suc k) (within k h).1;
-          room_is = λ k h.
-              ap₂ only_if (sym (unassigned_is (get_or en k 0) (get_or ed k 0)) ∙ ap unassigned (agrees.epochs k h))
-              (seconds_are k (within k h).2 ∙ ap₂ ◌-◌ (at (suc k) (within k h).1) (at k (within k h).0));
-        }
-
-    -- the board of a round
-    board : (done : Progress) (packet_n packet_d epoch_n epoch_d rest due passed reach : List ℕ) → Agrees day done packet_n packet_d epoch_n epoch_d
-        → Left count bytes packet_d rest → Gathered count rest row due → Passed n seconds epoch_d passed → Gathered count passed spots reach
-        → Board day done count from start passed arrivals deadlines bounds due reach
-    board done pn pd en ed rest due passed reach agrees rest_is due_is passed_is reach_is =
-        record {
-          count_is = unfold day_of packets_of in refl;
-          from_is = unfold day_of packets_of in from_is;
-          ends = λ j h. (get_or row j 0, setup.row_is.within j h, ends_at j h);
-          all_ends = λ k h. let x = setup.row_is.all k h in (x.0, x.1, x.2, all_at k h x.0 x.1 x.3);
-          load_is = load_is;
-          len_is = len_is;
-        }
-      where
-        here : Ground day done count from rest place n points (λ k. left_over (get_or ed k 0) (get_or seconds k 0))
-        here = ground done pn pd en ed rest agrees rest_is
-
-        ends_at : (j : ℕ) → j < count → get_or deadlines j 0 ≡ day.packets.till (get_or row j 0)
-        ends_at j h = row_due j h ∙ here.place_is (get_or row j 0) (setup.row_is.within j h)
-
-        all_at : (k : ℕ) → k < count → (j : ℕ) → j < count → get_or place (get_or row j 0) 0 ≡ get_or place k 0 → get_or deadlines j 0 ≡ day.packets.till k
-        all_at k h j g e = row_due j g ∙ ap (λ (b : ℕ). get_or points b 0) e ∙ here.place_is k h
-
-        load_is : (s j : ℕ) → j < count → (get_or bounds (suc j) 0 ≡ 0 → ⊥) → due_to arrivals due s (suc j) ≡ load day done s (get_or deadlines j 0)
-        load_is s j h m =
-            unfold due_to in
-            (sum_eq (suc j) _ (λ k. F (get_or row k 0)) (λ k q. ap₂ (counted_from s) (setup.arrivals_are.is k (omega arith)) (due_is.is k (omega arith))) ∙
-            setup.row_is.up_to j h m F ∙
-            load_carried day done count from rest place n points _ here s (get_or place (get_or row j 0) 0) (placed (get_or row j 0) (setup.row_is.within j h)).0 ∙
-            ap (load day done s) (sym (row_due j h)))
-          where
-            F : ℕ → ℕ
-            F p = counted_from s (get_or from p 0) (get_or rest p 0)
-
-        len_is : (i j : ℕ) → i < count → j < count → get_or reach j 0 - get_or passed (get_or start i 0) 0 ≡ len day done (get_or from i 0) (get_or deadlines j 0)
-        len_is i j g h =
-            ap₂ ◌-◌
-            (reach_is.is j h ∙ ap (λ (b : ℕ). get_or passed b 0) (setup.spots_are.is j h) ∙ passed_is.is (get_or place (get_or row j 0) 0) in_row)
-            (passed_is.is (get_or start i 0) (started i g).0) ∙
-            len_carried day done count from rest place n points _ here (get_or start i 0) (get_or place (get_or row j 0) 0) (started i g).0 in_row ∙
-            ap₂ (len day done) ((started i g).1 ∙ sym (from_is i g)) (sym (row_due j h))
-          where
-            in_row : get_or place (get_or row j 0) 0 < n
-            in_row = (placed (get_or row j 0) (setup.row_is.within j h)).0
+    ended : (j : ℕ) → j < packets.count → ((due_at row j).deadline_point < points.count) × (get_or points.at (due_at row j).deadline_point 0 ≡ (due_at row j).deadline)
+    ended j h =
+        let d = set.row_is.each j h in
+        let e = d.deadline_is ∙ till_is _ (packet_in j h) in
+        place_found _ _ (subst (λ (t : ℕ). Has t P) (sym e) (points_deadline count records (due_at row j).packet (packet_in j h))) d.deadline_at
 
     -- arrivals are of this day
-    early : (i : ℕ) → i < count → get_or from i 0 ≤ 86400
+    early : (i : ℕ) → i < count → (span_at packets.at i).from ≤ 86400
     early i h = omega (arith, from_is i h, (accepted.sound i h).early, (accepted.sound i h).today)
 
     -- the figures of a round are in range
-    pub ready : Ready count n from bytes seconds start row arrivals spots
+    pub ready : Ready points packets epochs row
     ready =
         record {
-          few = accepted.few;
+          few = omega (arith, accepted.few, packets_count);
           some = n_some;
-          most = n_most;
-          from_most = early;
-          arrivals_most = λ j h. rw (setup.arrivals_are.is j h) (early (get_or row j 0) (setup.row_is.within j h));
-          bytes_most = λ i h. rw (bytes_are i h) (air_most (size_of records i) (accepted.sound i h).small);
+          epochs_are = epochs_count;
+          bytes_most = λ i h.
+              let q : i < count = omega (arith, h, packets_count) in
+              rw (bytes_are i q) (air_most (size_of records i) (accepted.sound i q).small);
           seconds_most = λ k h.
-              omega (arith, seconds_are k h, at (suc k) (omega arith), points_today count records accepted (suc k) (omega (arith, setup.n_is)));
-          start_in = λ i h. (started i h).0;
-          row_in = setup.row_is.within;
-          place_in = λ j h. rw (setup.spots_are.is j h) (placed (get_or row j 0) (setup.row_is.within j h)).0;
+              let q : k < pred points.count = omega (arith, h, epochs_count) in
+              omega (arith, seconds_are k q, at (suc k) (omega arith), points_today count records accepted (suc k) (omega (arith, set.points_count)));
+          arrival_most = λ j h.
+              let d = set.row_is.each j h in
+              rw d.arrival_is (early (due_at row j).packet (packet_in j h));
+          packet_in = λ j h. (set.row_is.each j h).packet_in;
+          arrival_in = λ j h. (started j h).0;
+          deadline_in = λ j h. (ended j h).0;
         }
 
-    -- ## One turn
+    -- ## The board
 
-    module _ (r : ℕ) (packet_n packet_d epoch_n epoch_d : List ℕ) (leader : Leader) (agrees : Agrees day (after day r) packet_n packet_d epoch_n epoch_d) (leads : LeaderIs count n from bytes seconds start row bounds arrivals deadlines spots packet_d epoch_d leader) where
+    -- epochs lie between the points
+    epochs_fewer : day.epochs.count ≡ pred (length P)
+    epochs_fewer = unfold day_of epochs_of in refl
+
+    one_more : points.count ≡ suc day.epochs.count
+    one_more = omega (arith, epochs_fewer, set.points_count, points_some)
+
+    within : (k : ℕ) → k < day.epochs.count → (k < points.count) × (suc k < points.count)
+    within k h = (omega (arith, h, one_more), omega (arith, h, one_more))
+
+    module _ (done : Progress) (gifts : Gifts) (passed : List ℕ) (left : List Left) (agrees : Agrees day done gifts) (passed_is : Passed epochs gifts.epochs passed) (bytes_are' : (j : ℕ) → j < packets.count → (left_at left j).bytes ≡ left_over (slice_index_or gifts.packets (due_at row j).packet None) (span_at packets.at (due_at row j).packet).weight) (seconds_are' : (j : ℕ) → j < packets.count → (left_at left j).seconds ≡ get_or passed (due_at row j).deadline_point 0) where
+      abbrev rest : ℕ → ℕ
+      rest i = left_over (slice_index_or gifts.packets i None) (span_at packets.at i).weight
+
+      abbrev room : ℕ → ℕ
+      room k = left_over (slice_index_or gifts.epochs k None) (span_at epochs.at k).weight
+
+      packets_left : PacketsLeft day done packets.count (λ i. (span_at packets.at i).from) (λ i. (span_at packets.at i).till) rest
+      unfolding day_of packets_of left_over
+      packets_left =
+          record {
+            count_is = packets_count;
+            from_is = λ i h. from_is i (omega (arith, h, packets_count));
+            till_is = λ i h. till_is i (omega (arith, h, packets_count));
+            rest_is = λ i h.
+                let q : i < count = omega (arith, h, packets_count) in
+                ap₂ only_if (ap unassigned (agrees.packets i q)) (bytes_are i q);
+          }
+
+      epochs_left : EpochsLeft day done points.count points.at room
+      unfolding day_of epochs_of left_over
+      epochs_left =
+          record {
+            n_is = one_more;
+            rising = rises;
+            epoch_from = λ k h. at k (within k h).0;
+            epoch_till = λ k h. at (suc k) (within k h).1;
+            room_is = λ k h. ap₂ only_if (ap unassigned (agrees.epochs k h)) (epochs_here.weight_is k h);
+          }
+
+      board : Board day done packets.count (λ i. (due_at row i).arrival) (λ i. get_or passed (due_at row i).arrival_point 0) (due_at row) (left_at left)
+      board =
+          record {
+            count_is = packets_left.count_is;
+            starts = λ j h.
+                let d = set.row_is.each j h in
+                ((due_at row j).packet, d.packet_in, d.arrival_is ∙ packets_left.from_is _ d.packet_in);
+            all_starts = λ k h.
+                let x = set.row_is.holds k h in
+                (x.0, x.1, (set.row_is.each x.0 x.1).arrival_is ∙ ap (λ (p : ℕ). (span_at packets.at p).from) x.2 ∙ packets_left.from_is k h);
+            ends = λ j h.
+                let d = set.row_is.each j h in
+                ((due_at row j).packet, d.packet_in, d.deadline_is ∙ packets_left.till_is _ d.packet_in);
+            all_ends = λ k h. let x = set.row_is.ends k h in (x.0, x.1, x.2, x.3 ∙ packets_left.till_is k h);
+            load_is = load_is;
+            len_is = len_is;
+          }
+        where
+          load_is : (s j : ℕ) → j < packets.count → (due_at row j).last ≡ true → due_to (due_at row) (left_at left) s (suc j) ≡ load day done s (due_at row j).deadline
+          load_is s j h m =
+              unfold due_to in
+              (sum_eq (suc j) _ (λ k. F (due_at row k).packet)
+              (λ k q. ap₂ (counted_from s) (set.row_is.each k (omega arith)).arrival_is (bytes_are' k (omega arith))) ∙
+              set.row_is.up_to j h m F ∙
+              load_carried day done packets.count _ _ rest packets_left s (due_at row j).deadline)
+            where
+              F : ℕ → ℕ
+              F p = counted_from s (span_at packets.at p).from (rest p)
+
+          len_is : (i j : ℕ) → i < packets.count → j < packets.count
+              → (left_at left j).seconds - get_or passed (due_at row i).arrival_point 0 ≡ len day done (due_at row i).arrival (due_at row j).deadline
+          len_is i j g h =
+              ap₂ ◌-◌ (seconds_are' j h ∙ passed_is.is (due_at row j).deadline_point (omega (arith, (ended j h).0, epochs_count)))
+              (passed_is.is (due_at row i).arrival_point (omega (arith, (started i g).0, epochs_count))) ∙
+              len_carried day done points.count points.at room epochs_left (due_at row i).arrival_point (due_at row j).deadline_point (started i g).0 (ended j h).0 ∙
+              ap₂ (len day done) (started i g).1 (ended j h).1
+
+  -- ## One turn
+
+  module _ (setup : Setup) (set : SetUp count records setup.points setup.packets setup.epochs setup.row) where
+    module _ (r : ℕ) (gifts : Gifts) (best : Option Leader) (agrees : Agrees day (after day r) gifts) (leads : LeaderIs setup gifts best) where
       abbrev done : Progress
       done = after day r
 
       facts_now : Facts day done
       facts_now = after_facts day (proper count records accepted) r
 
-      here : Board day done count from start leads.passed arrivals deadlines bounds leads.due leads.reach
+      here : Board day done setup.packets.count (λ i. (due_at setup.row i).arrival) (λ i. get_or leads.passed (due_at setup.row i).arrival_point 0) (due_at setup.row) (left_at leads.left)
       here =
-          board done packet_n packet_d epoch_n epoch_d leads.left leads.due leads.passed leads.reach agrees
-          leads.left_is leads.due_is leads.passed_is leads.reach_is
+          board setup.points setup.packets setup.epochs setup.row set done gifts leads.passed leads.left agrees leads.passed_is
+          leads.left_is.bytes_are leads.left_is.seconds_are
 
       -- a leader is the pick
-      picked : 0 < leader.load
+      picked : (leader : Leader) → best ≡ Some leader
           → (pick day done ≡ between leader.start leader.end)
           × (leader.load ≡ load day done leader.start leader.end)
           × (leader.len ≡ len day done leader.start leader.end)
-      picked h =
-          rw leads.leads
-          (leader_picked day done count from start leads.passed arrivals deadlines bounds leads.due leads.reach here facts_now.positive (rw leads.leads at h))
+          × (0 < leader.load)
+      picked leader e = leader_picked day done _ _ _ _ _ here facts_now.positive leader (sym leads.leads ∙ e)
 
       -- a leader has length
-      pub leader_long : 0 < leader.load → 0 < leader.len
-      leader_long h =
-          let x = picked h in
-          subst (λ (k : ℕ). 0 < k) (sym x.2) (facts_now.positive leader.start leader.end (subst (λ (k : ℕ). 0 < k) x.1 h))
+      pub leader_long : (leader : Leader) → best ≡ Some leader → 0 < leader.len
+      leader_long leader e =
+          let x = picked leader e in
+          subst (λ (k : ℕ). 0 < k) (sym x.2) (facts_now.positive leader.start leader.end (subst (λ (k : ℕ). 0 < k) x.1 x.3))
 
       -- the round takes the leader
-      round_taken : 0 < leader.load
+      round_taken : (leader : Leader) → best ≡ Some leader
           → after day (suc r) ≡ give_rate day done leader.start leader.end (lowest_n leader.load leader.len) (lowest_d leader.load leader.len)
-      round_taken h =
-          let x = picked h in
+      round_taken leader e =
+          let x = picked leader e in
           unfold after round round_of taken in
           (ap (round_of day done) x.0 ∙
           (λ i. give_rate day done leader.start leader.end (lowest_n (sym x.1 i) (sym x.2 i)) (lowest_d (sym x.1 i) (sym x.2 i))))
 
-      -- the shares after it stand for what the round gives
-      pub turn : 0 < leader.load → (packet_n' packet_d' epoch_n' epoch_d' : List ℕ)
-          → Taken count n points from till ends packet_n packet_d epoch_n epoch_d leader packet_n' packet_d' epoch_n' epoch_d'
-          → Agrees day (after day (suc r)) packet_n' packet_d' epoch_n' epoch_d'
-      turn h pn pd en ed t = subst (λ (x : Progress). Agrees day x pn pd en ed) (sym (round_taken h)) next
+      -- the gifts after it stand for what the round gives
+      pub turn_on : (leader : Leader) → best ≡ Some leader → (gifts' : Gifts) → Taken setup leader gifts gifts' → Agrees day (after day (r + 1)) gifts'
+      turn_on leader e gifts' t =
+          rw add-one (subst (λ (x : Progress). Agrees day x gifts') (ap₂ (give_rate day done leader.start leader.end) t.n_is t.d_is ∙ sym (round_taken leader e)) next)
         where
-          d_some : 0 < lowest_d leader.load leader.len
-          d_some = lowest_d_positive leader.load leader.len (leader_long h)
-
-          same_count : pred n ≡ pred (length P)
-          same_count = ap pred setup.n_is
-
-          next : Agrees day (give_rate day done leader.start leader.end (lowest_n leader.load leader.len) (lowest_d leader.load leader.len)) pn pd en ed
+          next : Agrees day (give_rate day done leader.start leader.end t.rate.n t.rate.d) gifts'
           next =
-              unfold give_rate day_of packets_of epochs_of in
+              unfold give_rate day_of in
               record {
-                packets = λ i q.
-                    gift_assigns (packets_of count records) done.packet from till packet_n packet_d pn pd leader.start leader.end _ _ i q d_some
-                    (from_is i q) (till_is i q) (agrees.packets i q) t.packets;
+                packets = λ i q. gift_assigns (packets_of count records) done.packet setup.packets gifts.packets gifts'.packets _ _ t.rate i q set.packets_are (agrees.packets i q) t.packets;
                 epochs = λ k q.
-                    gift_assigns (epochs_of P) done.epoch points ends epoch_n epoch_d en ed leader.start leader.end _ _ k q d_some
-                    (at k (within k q).0) (ends_are k (within k q).2 ∙ at (suc k) (within k q).1) (agrees.epochs k q)
-                    (subst (λ (x : ℕ). Shared x points ends epoch_n epoch_d leader.start leader.end (lowest_n leader.load leader.len) (lowest_d leader.load leader.len) en ed) same_count t.epochs);
+                    gift_assigns (epochs_of P) done.epoch setup.epochs gifts.epochs gifts'.epochs _ _ t.rate k q
+                    (epochs_here setup.points setup.packets setup.epochs setup.row set) (agrees.epochs k q) t.epochs;
               }
 
       -- and it counts
-      pub turn_counts : 0 < leader.load → (after day r).rounds ≡ r → (after day (r + 1)).rounds ≡ r + 1
-      turn_counts h c = rw add-one (ap (λ (x : Progress). x.rounds) (round_taken h) ∙ unfold give_rate in ap suc c)
+      pub turn_counts : (leader : Leader) → best ≡ Some leader → (after day r).rounds ≡ r → (after day (r + 1)).rounds ≡ r + 1
+      turn_counts leader e c = rw add-one (ap (λ (x : Progress). x.rounds) (round_taken leader e) ∙ unfold give_rate in ap suc c)
+
+      few : (m : ℕ) → (after day m).rounds ≤ count
+      few m = unfold day_of packets_of in rounds_few day (proper count records accepted) m
+
+      -- rounds are at most as many as packets
+      pub turns_few : (leader : Leader) → best ≡ Some leader → (after day r).rounds ≡ r → r + 1 ≤ count
+      turns_few leader e c = omega (arith, few (r + 1), turn_counts leader e c)
 
       -- without a leader the rounds are over
-      pub over : leader.load ≡ 0 → r ≤ count → after day count ≡ done
-      over h p = rests day r (unfold round round_of in (rw none_picked refl)) count p
+      pub over : best ≡ None → (after day r).rounds ≡ r → after day count ≡ done
+      over h c = rests day r (unfold round round_of in (rw none_picked refl)) count (omega (arith, few r, c))
         where
           none_picked : pick day done ≡ nowhere
-          none_picked =
-              no_leader day done count from start leads.passed arrivals deadlines bounds leads.due leads.reach here facts_now.positive
-              (sym (ap (λ (x : Leader). x.load) leads.leads) ∙ h)
-
-      -- one turn on
-      pub turn_on : 0 < leader.load → (packet_n' packet_d' epoch_n' epoch_d' : List ℕ)
-          → Taken count n points from till ends packet_n packet_d epoch_n epoch_d leader packet_n' packet_d' epoch_n' epoch_d'
-          → Agrees day (after day (r + 1)) packet_n' packet_d' epoch_n' epoch_d'
-      turn_on h pn pd en ed t = rw add-one (turn h pn pd en ed t)
+          none_picked = no_leader day done _ _ _ _ _ here facts_now.positive (sym leads.leads ∙ h)
 
     -- ## The beginning and the end
 
     -- at first nothing is given
-    pub first_agrees : (packet_n packet_d epoch_n epoch_d : List ℕ) → ((i : ℕ) → i < 128 → get_or packet_d i 0 ≡ 0) → ((k : ℕ) → k < 128 → get_or epoch_d k 0 ≡ 0)
-        → Agrees day (after day 0) packet_n packet_d epoch_n epoch_d
+    pub first_agrees : Agrees day (after day 0) (record { packets = replicate 128 None; epochs = replicate 128 None })
     unfolding after
-    first_agrees pn pd en ed no_packet no_epoch = agrees_first day pn pd en ed packets_few epochs_few no_packet no_epoch
+    first_agrees = agrees_first day packets_few epochs_few
       where
         packets_few : day.packets.count ≤ 128
         packets_few = unfold day_of packets_of in omega (arith, accepted.few)
@@ -417,14 +379,14 @@ module _ (count : ℕ) (records : List ℕ) (accepted : Accepted count records) 
     first_counts = refl
 
     -- the end of the rounds
-    pub rated : (r : ℕ) (packet_n packet_d epoch_n epoch_d : List ℕ) → Agrees day (after day r) packet_n packet_d epoch_n epoch_d
-        → (after day r).rounds ≡ r → after day count ≡ after day r → Rated count records n points packet_n packet_d epoch_n epoch_d r
+    pub rated : (r : ℕ) (gifts : Gifts) → Agrees day (after day r) gifts → (after day r).rounds ≡ r → after day count ≡ after day r
+        → Rated count records (record { points = setup.points; packets = gifts.packets; epochs = gifts.epochs; rounds = r })
     unfolding outcome_of day_of packets_of epochs_of
-    rated r pn pd en ed agrees counted end =
+    rated r gifts agrees counted end =
         record {
-          points_are = setup.points_are;
-          n_is = setup.n_is;
+          points_are = set.points_are;
+          n_is = set.points_count;
           packets_are = λ i h. agrees.packets i h ∙ ap (λ (x : Progress). x.packet i) (sym end);
-          epochs_are = λ k h. agrees.epochs k (subst (λ (x : ℕ). k < pred x) setup.n_is h) ∙ ap (λ (x : Progress). x.epoch k) (sym end);
+          epochs_are = λ k h. agrees.epochs k (subst (λ (x : ℕ). k < pred x) set.points_count h) ∙ ap (λ (x : Progress). x.epoch k) (sym end);
           rounds_are = sym counted ∙ ap (λ (x : Progress). x.rounds) (sym end);
         }

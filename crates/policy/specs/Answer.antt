@@ -1,25 +1,34 @@
 -- What the call for the rates of all epochs gives, and what it writes (document 01, "Epochs and rates" and "Refusal numbers and their order").
 -- Assumes nothing.
-use Rattle.std.specs.Prelude.{ℕ, zero, suc, ◌*◌, ◌≡◌, List, [], ◌∷◌, ◌++◌, length, get_or, drop, ltb}
-use Rattle.packets.specs.Outcome.{Outcome, gives, refuses, ◌when◌else◌, ◌then◌, ◌given◌else◌, refusal_of}
+use Rattle.std.specs.Prelude.{ℕ, zero, suc, ◌*◌, ◌≡◌, List, [], ◌∷◌, ◌++◌, length, get_or, drop, ltb, Result, Option, Some, None, slice_index_or}
+use Rattle.packets.specs.Outcome.{Outcome, gives, refuses, ◌when◌else◌, ◌then◌, ◌given◌else◌, answer_of}
 use Rattle.packets.specs.Records.{memory_tests}
-use Rattle.policy.specs.declared.RatesAnswer.{RatesAnswer}
-use Rattle.policy.specs.declared.RatesAnswer.TheVariants.{Rated, Refused}
+use Rattle.packets.specs.declared.refusal.Refusal.{Refusal}
+use Rattle.policy.specs.declared.RatesSize.{RatesSize}
 use Rattle.policy.specs.declared.EpochRate.{EpochRate}
 use Rattle.policy.specs.declared.EpochRate.TheVariants.{Silent, Carries}
+use Rattle.fractions.specs.declared.Rate.{Rate}
 use Rattle.policy.specs.Windows.{Given, none, rate}
 use Rattle.policy.specs.Points.{points_of, epochs_of}
 use Rattle.policy.specs.Rounds.{outcome_of}
 
 -- the values of an answer: the epochs and the rounds, or the refusal
-abbrev pub rates_answer_of : RatesAnswer → Outcome
-rates_answer_of (Rated epochs rounds) = gives (epochs ∷ rounds ∷ [])
-rates_answer_of (Refused refusal) = refusal_of refusal
+abbrev pub rates_answer_of : Result RatesSize Refusal → Outcome
+rates_answer_of answer = answer_of (λ (size : RatesSize). size.epochs ∷ size.rounds ∷ []) answer
+
+-- what a packet or an epoch was given: nothing, or its rate
+abbrev pub given_of : Option Rate → Given
+given_of None = none
+given_of (Some carried) = rate carried.n carried.d
 
 -- what an epoch was given: nothing where it is silent, else its rate
 abbrev pub epoch_rate_of : EpochRate → Given
 epoch_rate_of Silent = none
 epoch_rate_of (Carries carried) = rate carried.n carried.d
+
+-- what number i of a list was given
+abbrev pub given_at : List (Option Rate) → ℕ → Given
+given_at rates i = given_of (slice_index_or rates i None)
 
 -- the numbers that are written for an epoch: its start (seconds), N and D (bytes per second)
 abbrev pub epoch_numbers : ℕ
@@ -65,6 +74,6 @@ unfoldable pub rates_after : ℕ → List ℕ → List ℕ → List ℕ
 rates_after count records lent = overwritten (rates_of count records) lent given rates_outcome count records (length lent) else lent
 
 -- what the call promises: its answer, and what the lent room holds at the end
-pub record EpochsRated (count : ℕ) (records lent : List ℕ) (answer : RatesAnswer) (exit : List ℕ) : Type 0 where
+pub record EpochsRated (count : ℕ) (records lent : List ℕ) (answer : Result RatesSize Refusal) (exit : List ℕ) : Type 0 where
   pub answer_is : rates_answer_of answer ≡ rates_outcome count records (length lent)
   pub exit_is : exit ≡ rates_after count records lent

@@ -5,4 +5,6 @@ pub mod Rounds
 pub mod Runs
 pub mod Carried
 pub mod Answer
+pub mod Rising
+pub mod Ranges
 pub mod Steps
