@@ -8,9 +8,10 @@ pub mod Settings
 pub mod Lists
 pub mod Costs
 pub mod Choosing
-pub mod Arrays
-pub mod Copying
+pub mod Picking
+pub mod Assigning
 pub mod Filling
 pub mod Making
+pub mod Writing
 pub mod Answering
 pub mod PastTheCount

@@ -1,123 +1,66 @@
 // One epoch of the timetable: earliest deadline first from its start, until it is full or no candidate is left.
-ghost use Rattle.std.specs.Prelude.{◌≡◌, [], ◌∷◌, suc, ◌+◌, ◌^◌, ◌<◌, ◌≤◌, min, length};
-ghost use Rattle.policy.specs.Answer.{epoch_rate_of};
+ghost use Rattle.std.specs.Prelude.{◌≡◌, suc, ◌+◌, ◌^◌, ◌<◌};
 ghost use Rattle.timetable.specs.Setting.{setting};
-ghost use Rattle.timetable.specs.Steps.{Carrying, EpochAt, Underway, with_row};
+ghost use Rattle.timetable.specs.Steps.{Carrying, Underway};
 
-use crate::choice::{Epoch, next_found};
-use crate::made::ENTRY_NUMBERS;
-use fractions::cross;
-use policy::EpochRate;
+use crate::assigned::Assigned;
+use crate::entry::{Entry, MOST_ENTRIES};
+use fractions::{Rate, cross};
 
-// Epoch k, by what it was given: nothing is sent in a silent one. The entries go to `at` and on; the place behind the last one is the answer.
-pub fn epoch_step(
-    k: usize,
-    rate: EpochRate,
-    start: u64,
-    end: u64,
-    count: usize,
-    records: &[u64],
-    n: &[u64; 128],
-    d: &[u64; 128],
-    unsent: &mut [u64; 128],
-    entries: &mut [u64],
-    at: usize,
-) -> usize
-    requires { EpochAt count records.now k (epoch_rate_of rate) start end n.now d.now × Underway count records.now k unsent.old entries.old at }
-    ensures { Underway count records.now (suc k) unsent.new entries.new result }
-{
-    match rate {
-        EpochRate::Silent => at,
-        EpochRate::Carries(rate) => {
-            let epoch = Epoch {
-                start,
-                end,
-                n: rate.n,
-                d: rate.d,
+// An epoch that carries a rate: its number, its start and its end (seconds), and the rate (bytes per second).
+#[derive(Clone, Copy)]
+pub struct Epoch {
+    pub number: usize,
+    pub start: u64,
+    pub end: u64,
+    pub rate: Rate,
+}
+
+// How far the timetable has come: the units that each packet has still to send (1/D byte), and the number of entries. The entries stand in an array that the caller
+// lends, since memory is fixed, and as values in this struct they would be copied.
+#[derive(Clone, Copy)]
+pub struct Sheet {
+    pub unsent: [u64; 128],
+    pub count: usize,
+}
+
+impl Sheet {
+    // The stretches of one epoch, each until its packet or the epoch ends. Their entries stand behind those of the epochs before it.
+    pub(crate) fn fill(
+        &mut self,
+        epoch: Epoch,
+        assigned: &Assigned,
+        entries: &mut [Entry; MOST_ENTRIES],
+    )
+        requires carrying { Carrying assigned.now.packets.count assigned.now.packets.records.now epoch }
+        requires underway { Underway assigned.now.packets.count assigned.now.packets.records.now epoch.number self.old entries.old }
+        ensures { Underway assigned.now.packets.count assigned.now.packets.records.now (suc epoch.number) self.new entries.new }
+    {
+        let full = cross(epoch.end - epoch.start, epoch.rate.n);
+        let r = setting_of(epoch.rate);
+        let mut x: u64 = 0;
+        while let Some(packet) = assigned.next(epoch, &self.unsent, x, full) {
+            let y = self.unsent[packet].min(full - x);
+            entries[self.count] = Entry {
+                packet,
+                start: epoch.start,
+                r,
+                d: epoch.rate.d,
+                from: x,
+                to: x + y,
+                n: epoch.rate.n,
             };
-            fill(k, epoch, count, records, n, d, unsent, entries, at)
+            self.count += 1;
+            self.unsent[packet] -= y;
+            x += y;
         }
     }
 }
 
-// Epoch k, which carries a rate.
-fn fill(
-    k: usize,
-    epoch: Epoch,
-    count: usize,
-    records: &[u64],
-    n: &[u64; 128],
-    d: &[u64; 128],
-    unsent: &mut [u64; 128],
-    entries: &mut [u64],
-    at: usize,
-) -> usize
-    requires { Carrying count records.now k epoch n.now d.now × Underway count records.now k unsent.old entries.old at }
-    ensures { Underway count records.now (suc k) unsent.new entries.new result }
+// R, the rate N/D rounded up to a whole number (bytes per second). Not by `div_ceil`: tried, and the proof did not close, since its law has quotient and rest apart.
+pub fn setting_of(rate: Rate) -> u64
+    requires { (0 < rate.d) × (rate.n < 2 ^ 32) × (rate.d < 2 ^ 32) }
+    ensures { result ≡ setting rate.n rate.d }
 {
-    let full = cross(epoch.end - epoch.start, epoch.n);
-    let r = setting_of(epoch.n, epoch.d);
-    let mut behind = at;
-    let mut x: u64 = 0;
-    let mut next = next_found(count, epoch, records, n, d, unsent, x, full);
-    while next < count {
-        let y = smaller(unsent[next], full - x);
-        write_entry(
-            entries,
-            behind,
-            next,
-            epoch.start,
-            r,
-            epoch.d,
-            x,
-            x + y,
-            epoch.n,
-        );
-        unsent[next] = unsent[next] - y;
-        x += y;
-        behind += ENTRY_NUMBERS;
-        next = next_found(count, epoch, records, n, d, unsent, x, full);
-    }
-    behind
-}
-
-// R, the rate N/D rounded up to a whole number (bytes per second).
-pub fn setting_of(n: u64, d: u64) -> u64
-    requires { (0 < d) × (n < 2 ^ 32) × (d < 2 ^ 32) }
-    ensures { result ≡ setting n d }
-{
-    (n + (d - 1)) / d
-}
-
-fn smaller(a: u64, b: u64) -> u64
-    ensures { result ≡ min a b }
-{
-    if a < b {
-        return a;
-    }
-    b
-}
-
-// The seven numbers of an entry.
-fn write_entry(
-    entries: &mut [u64],
-    at: usize,
-    packet: usize,
-    start: u64,
-    r: u64,
-    d: u64,
-    from: u64,
-    to: u64,
-    n: u64,
-)
-    requires { at + 7 ≤ length entries.old }
-    ensures { entries.new ≡ with_row entries.old at (packet ∷ start ∷ r ∷ d ∷ from ∷ to ∷ n ∷ []) }
-{
-    entries[at] = packet as u64;
-    entries[at + 1] = start;
-    entries[at + 2] = r;
-    entries[at + 3] = d;
-    entries[at + 4] = from;
-    entries[at + 5] = to;
-    entries[at + 6] = n;
+    (rate.n + (rate.d - 1)) / rate.d
 }

@@ -1,15 +1,19 @@
--- `timetable::timetables` meets its contract: the tests refuse, or the packets are accepted. Assumes nothing.
-use mathlib.Core.Path.{sym}
-use Rattle.packets.proofs.Outcomes.{verdict_refuses, verdict_passes}
-use Rattle.packets.proofs.Records.{memory_accepted}
-use Rattle.timetable.proofs.Answering.{tests_refuse}
+-- `timetable::timetables` meets its contract: the tests refuse, the room is too short, or the entries of the list are written. Assumes nothing.
+use Rattle.std.proofs.lemmas.Result.{err_from_is_err_and}
+use Rattle.timetable.proofs.Answering.{kept_timetabled, room_enough, short_of_room, tests_refuse}
+use Rattle.timetable.proofs.Writing.{numbers_all}
 use Rattle.timetable.proofs.timetables.Goals as goal
 
-pub returns-in-Refused : goal.returns-in-Refused
-returns-in-Refused c = tests_refuse _ _ _ _ (verdict_refuses c.in-Refused.is c.judge_packets-verdict.ensures)
+pub returns-in_err-packets : goal.returns-in_err-packets
+returns-in_err-packets c =
+    let p = err_from_is_err_and c.from_residual.result c.from_residual.ensures.1 in
+    rw (p.1, p.2) (tests_refuse _ _ _ _ c.in_err-packets.ensures.verdict)
 
-pub judged_timetables-requires : goal.judged_timetables-requires
-judged_timetables-requires c = memory_accepted _ _ (sym (verdict_passes c.in_default.is c.judge_packets-verdict.ensures))
+pub returns-then-entries-timetable : goal.returns-then-entries-timetable
+returns-then-entries-timetable c =
+    kept_timetabled c.in_ok-packets.ensures.kept (short_of_room _ _ c.in_ok-packets.packets.accepted _ _ _ c.made_of-timetable.ensures c.if-entries-timetable.true)
 
 pub returns : goal.returns
-returns c = c.judged_timetables.ensures
+returns c =
+    kept_timetabled c.in_ok-packets.ensures.kept
+    (room_enough _ _ c.in_ok-packets.packets.accepted _ _ _ c.made_of-timetable.ensures _ c.if-entries-timetable.false (rw numbers_all at c.write_entries.ensures))

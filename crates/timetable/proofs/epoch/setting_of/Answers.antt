@@ -7,4 +7,4 @@ use Rattle.timetable.proofs.epoch.setting_of.Goals as goal
 
 pub returns : goal.returns
 unfolding setting
-returns c = ap (λ (x : ℕ). (c.args.n + x) / c.args.d) (omega arith)
+returns c = ap (λ (x : ℕ). (c.args.rate.n + x) / c.args.rate.d) (omega arith)
