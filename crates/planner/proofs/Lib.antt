@@ -1,4 +1,3 @@
-pub mod Rowing
 pub mod Passing
 pub mod Packing
 pub mod Reading

@@ -1,12 +1,12 @@
 -- The whole call, step by step: the timetable of accepted packets goes to the plan writer, which can refuse it only for the room (`Passing`); a list that is
 -- read gives accepted packets, and one that is refused is refused as it is. Assumes nothing.
-use Prim.Native.Nat.{ℕ, ◌+◌, ◌*◌, ◌≤◌}
+use Prim.Native.Nat.{ℕ, ◌*◌}
 use mathlib.Core.Path.{◌≡◌, refl, sym, ap, subst, ◌∙◌}
 use mathlib.Core.Bool.{Bool, true, false}
 use mathlib.Core.List.{List, [], ◌∷◌, ◌++◌}
 use native.Mathlib.Omega.{arith}
-use lib.ListN.{length, take, drop, take-append-drop}
-use lib.Seq.{sets, sets-eq, take_at, take_all}
+use lib.ListN.{length, take, drop}
+use lib.Seq.{take_at, take_all}
 use lib.Dec.{ltb}
 use Rattle.packets.specs.Outcome.{Outcome, gives, refuses, ◌when◌else◌, ◌given◌else◌, refusal_of}
 use Rattle.packets.specs.declared.refusal.Refusal.{Refusal}
@@ -18,20 +18,19 @@ use Rattle.packets.proofs.Outcomes.{passed_then, given_leaves, refused_leaves}
 use Rattle.packets.proofs.Answers.{refusal_gives}
 use Rattle.packets.proofs.Lists.{read_passes, read_refused, read_told, length_records}
 use Rattle.policy.specs.Rounds.{outcome_of}
-use Rattle.timetable.specs.declared.made.Timetable.{Timetable}
-use Rattle.timetable.specs.Entries.{entries_of, numbers_of}
-use Rattle.timetable.specs.Entries.{entry_numbers as made_numbers}
-use Rattle.timetable.specs.Steps.{Planned}
-use Rattle.timetable.proofs.Lists.{timetable}
+use Rattle.timetable.specs.declared.Timetable.{Timetable}
+use Rattle.timetable.specs.declared.entry.Entry as Made
+use Rattle.policy.specs.Answer.{overwritten}
+use Rattle.timetable.specs.Entries.{entries_of}
+use Rattle.timetable.specs.Steps.{Planned, entry_of, first_numbers}
 use Rattle.timetable.specs.Costs.{cost_of}
-use Rattle.plan.specs.Entries.{entry_numbers, most_entries}
+use Rattle.plan.specs.Entries.{entry_numbers}
 use Rattle.plan.specs.Frame as plan
 use Rattle.plan.specs.Frame.{frame_bytes, framed}
 use Rattle.plan.proofs.Framing.{fitting_memory}
-use Rattle.planner.specs.Rows.{sixes}
 use Rattle.planner.specs.Whole.{plan_numbers, packets_outcome, packets_framed, plan_outcome, frame_after, Packed, Whole}
-use Rattle.planner.specs.declared.PlanAnswer.{PlanAnswer}
-use Rattle.planner.proofs.Passing.{fitting, length_numbers, numbers_sixes}
+use Rattle.std.specs.Prelude.{Result, map}
+use Rattle.planner.proofs.Passing.{fitting, length_numbers, numbers_six}
 
 -- ---- accepted packets
 
@@ -123,44 +122,34 @@ module _ (bytes frame : List ℕ) where
 
 -- what stands behind the plan's numbers in a longer buffer
 rest : ℕ → List ℕ → List ℕ → List ℕ
-rest count records zeros = drop (0 + length (plan_numbers (entries_of count records))) zeros
+rest count records zeros = drop (length (plan_numbers (entries_of count records))) zeros
 
-module _ (count : ℕ) (records frame zeros rows made_entries : List ℕ) (made : Timetable) (accepted : Accepted count records) (planned : Planned count records made_entries made)
-    (copied : rows ≡ sets zeros 0 (sixes made.count made_entries)) (roomy : entry_numbers * most_entries ≤ length zeros) where
+module _ (count : ℕ) (records frame zeros rows : List ℕ) (made_entries : List Made.Entry) (made : Timetable) (accepted : Accepted count records) (planned : Planned count records made_entries made)
+    (written : rows ≡ overwritten (first_numbers 6 (map entry_of (take made.entries made_entries))) zeros) where
   -- the rows are the plan's numbers, and behind them what stood there
   rows_are : rows ≡ plan_numbers (entries_of count records) ++ rest count records zeros
-  unfolding rest
-  rows_are =
-      let t = timetable count records accepted in
-      let long = length_numbers (entries_of count records) in
-      let split : made_entries ≡ numbers_of (entries_of count records) ++ drop (made_numbers * made.count) made_entries =
-      sym (take-append-drop (made_numbers * made.count) made_entries)
-      ∙ ap (λ (l : List ℕ). l ++ drop (made_numbers * made.count) made_entries) planned.entries_are in
-      let six : sixes made.count made_entries ≡ plan_numbers (entries_of count records) =
-      ap (λ (k : ℕ). sixes k made_entries) planned.count_is
-      ∙ ap (sixes (length (entries_of count records))) split
-      ∙ numbers_sixes (entries_of count records) _ in
-      copied ∙ ap (sets zeros 0) six ∙ sets-eq (plan_numbers (entries_of count records)) zeros 0 (omega (arith, t.few))
+  unfolding rest overwritten
+  rows_are = written ∙ ap (λ (l : List ℕ). l ++ drop (length l) zeros) (ap (first_numbers 6) planned.entries_are ∙ numbers_six (entries_of count records))
 
   -- so the plan writer is asked for the list's plan
-  asked : plan.write_outcome made.count rows made.cost (length frame)
+  asked : plan.write_outcome made.entries rows made.cost (length frame)
       ≡ plan.write_outcome (length (entries_of count records)) (plan_numbers (entries_of count records) ++ rest count records zeros) (cost_of count records) (length frame)
   asked = rw (planned.count_is, planned.cost_is, rows_are)
 
-  filled : plan.frame_after made.count rows made.cost frame
+  filled : plan.frame_after made.entries rows made.cost frame
       ≡ plan.frame_after (length (entries_of count records)) (plan_numbers (entries_of count records) ++ rest count records zeros) (cost_of count records) frame
   filled = rw (planned.count_is, planned.cost_is, rows_are)
 
-  pub plan_written : (bytes : ℕ) {after : List ℕ} → gives (bytes ∷ []) ≡ plan.write_outcome made.count rows made.cost (length frame)
-      → after ≡ plan.frame_after made.count rows made.cost frame
-      → (gives (made.rounds ∷ made.count ∷ made.cost ∷ []) ≡ packets_outcome count records (length frame))
+  pub plan_written : (bytes : ℕ) {after : List ℕ} → gives (bytes ∷ []) ≡ plan.write_outcome made.entries rows made.cost (length frame)
+      → after ≡ plan.frame_after made.entries rows made.cost frame
+      → (gives (made.rounds ∷ made.entries ∷ made.cost ∷ []) ≡ packets_outcome count records (length frame))
       × (after ≡ (packets_framed count records frame given packets_outcome count records (length frame) else frame))
   plan_written bytes e f =
       let p = written_packs count records (rest count records zeros) frame accepted bytes (e ∙ asked) in
       (rw (planned.rounds_are, planned.count_is, planned.cost_is) p.0, f ∙ filled ∙ p.1)
 
-  pub plan_refused : (refusal : Refusal) {after : List ℕ} → refusal_of refusal ≡ plan.write_outcome made.count rows made.cost (length frame)
-      → after ≡ plan.frame_after made.count rows made.cost frame
+  pub plan_refused : (refusal : Refusal) {after : List ℕ} → refusal_of refusal ≡ plan.write_outcome made.entries rows made.cost (length frame)
+      → after ≡ plan.frame_after made.entries rows made.cost frame
       → (refusal_of refusal ≡ packets_outcome count records (length frame))
       × (after ≡ (packets_framed count records frame given packets_outcome count records (length frame) else frame))
   plan_refused refusal e f =
@@ -185,7 +174,7 @@ module _ (bytes lent after : List ℕ) (count used : ℕ) (told : gives (count �
   records_accepted = rw (records_are, packets_are) (read_passes bytes (length lent) (count ∷ used ∷ []) (sym told)).2
 
   -- what the packets come to is what the list comes to
-  pub list_planned : (frame : List ℕ) (answer : PlanAnswer) (exit : List ℕ) → Packed count (take (record_numbers * count) after) frame answer exit → Whole bytes frame answer exit
+  pub list_planned : (frame : List ℕ) (answer : Result Timetable Refusal) (exit : List ℕ) → Packed count (take (record_numbers * count) after) frame answer exit → Whole bytes frame answer exit
   unfolding frame_after
   list_planned frame answer exit p =
       let same : packets_outcome (count_on bytes) (records_on bytes) (length frame) ≡ plan_outcome bytes (length frame) = list_packs bytes frame (length lent) _ told in

@@ -6,7 +6,7 @@ use mathlib.Core.List.{List, [], ◌∷◌, ◌++◌}
 use native.Mathlib.Omega.{arith}
 use lib.ListN.{length, length-append}
 use Rattle.packets.specs.Records.{Accepted}
-use Rattle.timetable.specs.Entries.{Entry, entries_of, numbers_of}
+use Rattle.timetable.specs.Entries.{Entry, entries_of}
 use Rattle.timetable.specs.Right.{Each, Figured}
 use Rattle.timetable.specs.Costs.{cost_of}
 use Rattle.timetable.proofs.Lists.{timetable, figured}
@@ -14,7 +14,7 @@ use Rattle.timetable.proofs.Costs.{cost_fits}
 use Rattle.plan.specs.Entries.{entry_numbers, field_of}
 use Rattle.plan.proofs.Judging.{SoundAt, sound_entries, tests_past}
 use Rattle.plan.proofs.Framing.{Fitting}
-use Rattle.planner.specs.Rows.{sixes}
+use Rattle.timetable.specs.Steps.{first_numbers}
 use Rattle.planner.specs.Whole.{plan_numbers}
 
 -- six numbers for each entry
@@ -24,11 +24,10 @@ length_numbers [] = omega arith
 length_numbers (e ∷ entries) = omega (arith, length_numbers entries)
 
 -- they are the first six of each seven
-pub numbers_sixes : (entries : List Entry) (behind : List ℕ) → sixes (length entries) (numbers_of entries ++ behind) ≡ plan_numbers entries
-unfolding plan_numbers numbers_of sixes
-numbers_sixes [] behind = refl
-numbers_sixes (e ∷ entries) behind =
-    ap (λ (l : List ℕ). e.packet ∷ e.start ∷ e.R ∷ e.D ∷ e.from ∷ e.to ∷ l) (numbers_sixes entries behind)
+pub numbers_six : (entries : List Entry) → first_numbers 6 entries ≡ plan_numbers entries
+unfolding plan_numbers first_numbers
+numbers_six [] = refl
+numbers_six (e ∷ entries) = ap (λ (l : List ℕ). e.packet ∷ e.start ∷ e.R ∷ e.D ∷ e.from ∷ e.to ∷ l) (numbers_six entries)
 
 -- entries whose figures are in range are sound, each at its place
 sound_numbers : (entries : List Entry) → Each Figured entries → (k : ℕ) → k < length entries → SoundAt (plan_numbers entries) k

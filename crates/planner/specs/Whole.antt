@@ -1,15 +1,15 @@
 -- The whole call, from a list's bytes to a plan in a lent frame: its answer and the frame, byte for byte, as the rates, the entries and the costs of the
 -- list's packets give them. Bytes, seconds, bytes per second; a cost is in bytes per second, squared, times seconds. Assumes nothing.
-use Rattle.std.specs.Prelude.{ℕ, ◌≡◌, List, [], ◌∷◌, length, ltb}
-use Rattle.packets.specs.Outcome.{Outcome, gives, refuses, ◌when◌else◌, ◌then◌, ◌given◌else◌, refusal_of}
+use Rattle.std.specs.Prelude.{ℕ, ◌≡◌, List, [], ◌∷◌, length, ltb, Result}
+use Rattle.packets.specs.Outcome.{Outcome, gives, refuses, ◌when◌else◌, ◌then◌, ◌given◌else◌, answer_of}
+use Rattle.packets.specs.declared.refusal.Refusal.{Refusal}
+use Rattle.timetable.specs.declared.Timetable.{Timetable}
 use Rattle.packets.specs.Records.{record_tests}
 use Rattle.packets.specs.List.{count_on, records_on, wire_tests}
 use Rattle.policy.specs.Rounds.{outcome_of}
 use Rattle.timetable.specs.Entries.{Entry, entries_of}
 use Rattle.timetable.specs.Costs.{cost_of}
 use Rattle.plan.specs.Frame.{frame_bytes, framed}
-use Rattle.planner.specs.declared.PlanAnswer.{PlanAnswer}
-use Rattle.planner.specs.declared.PlanAnswer.TheVariants.{Planned, Refused}
 
 -- the numbers of entries in a plan: packet, epoch start, R, D, from and to of each
 unfoldable pub plan_numbers : List Entry → List ℕ
@@ -17,9 +17,8 @@ plan_numbers [] = []
 plan_numbers (e ∷ entries) = e.packet ∷ e.start ∷ e.R ∷ e.D ∷ e.from ∷ e.to ∷ plan_numbers entries
 
 -- the values of an answer: the rounds, the entries and the radio cost, or the refusal
-abbrev pub plan_answer_of : PlanAnswer → Outcome
-plan_answer_of (Planned rounds entries cost) = gives (rounds ∷ entries ∷ cost ∷ [])
-plan_answer_of (Refused refusal) = refusal_of refusal
+abbrev pub plan_answer_of : Result Timetable Refusal → Outcome
+plan_answer_of answer = answer_of (λ (t : Timetable). t.rounds ∷ t.entries ∷ t.cost ∷ []) answer
 
 -- accepted packets into a frame of so many bytes: 8 for the frame, its head included; else the number of rounds, the number of entries and the radio cost
 unfoldable pub packets_outcome : ℕ → List ℕ → ℕ → Outcome
@@ -43,11 +42,11 @@ unfoldable pub frame_after : List ℕ → List ℕ → List ℕ
 frame_after list frame = packets_framed (count_on list) (records_on list) frame given plan_outcome list (length frame) else frame
 
 -- what the whole call promises: the answer, and every byte of the lent frame at exit
-abbrev pub Whole : List ℕ → List ℕ → PlanAnswer → List ℕ → Type 0
+abbrev pub Whole : List ℕ → List ℕ → Result Timetable Refusal → List ℕ → Type 0
 Whole list frame answer after = (plan_answer_of answer ≡ plan_outcome list (length frame)) × (after ≡ frame_after list frame)
 
 -- the same of accepted packets
-abbrev pub Packed : ℕ → List ℕ → List ℕ → PlanAnswer → List ℕ → Type 0
+abbrev pub Packed : ℕ → List ℕ → List ℕ → Result Timetable Refusal → List ℕ → Type 0
 Packed count records frame answer after =
     (plan_answer_of answer ≡ packets_outcome count records (length frame))
     × (after ≡ (packets_framed count records frame given packets_outcome count records (length frame) else frame))
