@@ -31,7 +31,7 @@ pub extern "C" fn downcrook_plan_list(list: &[u8], frame: &mut [u8]) -> Planned
     ensures { (planned_fields result ≡ shown 3 (whole.plan_outcome list.now (length frame.old)))
         × (frame.new ≡ whole.frame_after list.now frame.old) }
 {
-    shown::show_plan(planner::plan_list(list, frame))
+    planner::plan_list(list, frame).into()
 }
 
 // Judges packets in memory, of which count are called for.
@@ -39,7 +39,7 @@ pub extern "C" fn downcrook_plan_list(list: &[u8], frame: &mut [u8]) -> Planned
 pub extern "C" fn downcrook_judge_packets(count: usize, records: &[u64]) -> Judged
     ensures { judged_fields result ≡ shown 0 (memory_tests count records.now) }
 {
-    shown::show_verdict(judge::judge_packets(count, records))
+    judge::judge_packets(count, records).into()
 }
 
 // What reading the list at the front of the bytes into room for so many numbers comes to.
@@ -47,7 +47,7 @@ pub extern "C" fn downcrook_judge_packets(count: usize, records: &[u64]) -> Judg
 pub extern "C" fn downcrook_judge_list(bytes: &[u8], room: usize) -> Listed
     ensures { listed_fields result ≡ shown 2 (lists.read_outcome bytes.now room) }
 {
-    shown::show_list(list::judge_list(bytes, room))
+    list::judge_list(bytes, room).into()
 }
 
 // Reads the list at the front of the bytes into the lent records, three numbers a packet. What it takes (bytes) is what the part handed back leaves of the input.
@@ -57,13 +57,11 @@ pub extern "C" fn downcrook_read_list(bytes: &[u8], records: &mut [u64]) -> List
     ensures { (listed_fields result ≡ shown 2 (lists.read_outcome bytes.now (length records.old)))
         × (records.new ≡ lists.records_after bytes.now records.old) }
 {
-    let judged = shown::show_list(list::judge_list(bytes, records.len()));
+    let judged: Listed = list::judge_list(bytes, records.len()).into();
     let rest = list::read_list(bytes, records);
     Listed {
-        refusal: judged.refusal,
-        place: judged.place,
-        packets: judged.packets,
         bytes: (bytes.len() - rest.len()) as u64,
+        ..judged
     }
 }
 
@@ -73,7 +71,7 @@ pub extern "C" fn downcrook_write_list(count: usize, records: &[u64], bytes: &mu
     ensures { (written_fields result ≡ shown 1 (lists.write_outcome count records.now (length bytes.old)))
         × (bytes.new ≡ lists.bytes_after count records.now bytes.old) }
 {
-    shown::show_written(list::write_list(count, records, bytes))
+    list::write_list(count, records, bytes).into()
 }
 
 // The rate of every epoch: start (seconds), N and D (N/D bytes per second), three numbers an epoch. The numbers past the last epoch stay; a refusal changes nothing.
@@ -82,7 +80,7 @@ pub extern "C" fn downcrook_epoch_rates(count: usize, records: &[u64], rates: &m
     ensures { (rated_fields result ≡ shown 2 (rates_outcome count records.now (length rates.old)))
         × (rates.new ≡ rates_after count records.now rates.old) }
 {
-    shown::show_rates(policy::epoch_rates(count, records, rates))
+    policy::epoch_rates(count, records, rates).into()
 }
 
 // Both timetables of packets in memory, seven numbers an entry. The numbers past the last entry stay; a refusal changes nothing.
@@ -95,7 +93,7 @@ pub extern "C" fn downcrook_timetables(
     ensures { (planned_fields result ≡ shown 3 (timetabled.timetables_outcome count records.now (length entries.old)))
         × (entries.new ≡ timetabled.entries_after count records.now entries.old) }
 {
-    shown::show_timetables(timetable::timetables(count, records, entries))
+    timetable::timetables(count, records, entries).into()
 }
 
 // Reads the plan in a frame, from byte 8 on, into lent entries, six numbers an entry. The numbers past the last entry stay; a refusal changes nothing.
@@ -104,7 +102,7 @@ pub extern "C" fn downcrook_read_plan(frame: &[u8], entries: &mut [u64]) -> Read
     ensures { (read_fields result ≡ shown 2 (plans.read_outcome (plans.plan_on frame.now) (length entries.old)))
         × (entries.new ≡ plans.entries_after (plans.plan_on frame.now) entries.old) }
 {
-    shown::show_entries(frame::read_plan(frame, entries))
+    frame::read_plan(frame, entries).into()
 }
 
 // Writes entries, six numbers each, and cost as a plan into the lent frame, from byte 8 on. The eight head bytes and the bytes behind the plan stay; a refusal
@@ -119,5 +117,5 @@ pub extern "C" fn downcrook_write_plan(
     ensures { (written_fields result ≡ shown 1 (plans.write_outcome count entries.now cost (length frame.old)))
         × (frame.new ≡ plans.frame_after count entries.now cost frame.old) }
 {
-    shown::show_frame(frame::write_plan(count, entries, cost, frame))
+    frame::write_plan(count, entries, cost, frame).into()
 }

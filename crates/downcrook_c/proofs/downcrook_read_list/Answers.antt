@@ -11,15 +11,15 @@ use Rattle.downcrook_c.proofs.downcrook_read_list.Goals.{After-slice_known-2-1}
 
 -- the judge's numbers
 numbers : (c : After-slice_known-2-1)
-    → listed_fields c.show_list-judged.result
+    → listed_fields c.into-judged.result
     ≡ shown 2 (read_outcome c.args.bytes.now (length c.args.records.now))
-numbers c = c.show_list-judged.ensures ∙ ap (shown 2) c.judge_list.ensures
+numbers c = c.into-judged.ensures ∙ ap (shown 2) c.judge_list.ensures
 
 -- what is handed back, and what judging shows: all that `rest_taken` asks
 taken : (c : After-slice_known-2-1)
     → (length c.read_list-rest.result.now ≤ length c.args.bytes.now)
     × (length c.args.bytes.now - length c.read_list-rest.result.now
-    ≡ c.show_list-judged.result.bytes)
+    ≡ c.into-judged.result.bytes)
 taken c = rw c.read_list-rest.ensures.0 (rest_taken _ _ _ _ _ _ (numbers c))
 
 pub overflow_sub-result : goal.overflow_sub-result

@@ -1,9 +1,0 @@
--- `downcrook_c::downcrook_read_plan` meets its contract: the library's answer is shown as it is, and the lent buffer is as the library leaves it. Assumes nothing.
-use mathlib.Core.Path.{ap, ◌∙◌}
-use Rattle.downcrook_c.specs.Shown.{shown}
-use Rattle.downcrook_c.proofs.downcrook_read_plan.Goals as goal
-
-pub returns : goal.returns
-returns c =
-    let done = c.read_plan.ensures in
-    (c.show_entries.ensures ∙ ap (shown 2) done.0, done.1)
