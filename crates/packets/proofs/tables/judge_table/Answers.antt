@@ -31,9 +31,6 @@ few g c = let n = c.in_ok-count.ensures.count in omega (arith, (whole g c).few)
 held : (g : given.Over) (c : In_ok-count g) → length g.T.Table.form.row * c.in_ok-count.count ≤ g.row.NUMBERS
 held g c = let most = mul-le-mul_left (length g.T.Table.form.row) (few g c) in omega (arith, c.requires.held)
 
-pub whole_as_slice-read_rows : goal.whole_as_slice-read_rows
-whole_as_slice-read_rows g c = omega (arith, c.requires.fits)
-
 pub read_rows-requires-clause-inside_bytes : goal.read_rows-requires-clause-inside_bytes
 read_rows-requires-clause-inside_bytes g c =
     let n = c.in_ok-count.ensures.count in
@@ -52,9 +49,6 @@ pub read_rows-requires-clause-inside_out : goal.read_rows-requires-clause-inside
 read_rows-requires-clause-inside_out g c =
     let room = held g (goal.at.read_rows-requires-clause-inside_out g c).In_ok-count in
     rw (c.row_widths-widths.ensures, length-replicate) (omega arith)
-
-pub shared_whole_as_slice-judge_rows : goal.shared_whole_as_slice-judge_rows
-shared_whole_as_slice-judge_rows g c = omega (arith, c.requires.fits)
 
 pub judge_rows-requires : goal.judge_rows-requires
 judge_rows-requires g c =
