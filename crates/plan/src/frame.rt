@@ -110,7 +110,8 @@ pub fn read_plan(frame: &[u8], lent: &mut [u64]) -> Result<PlanHead, Refusal>
 }
 
 // Writes entries and cost as a plan into the lent frame from byte 8 on, and answers how many bytes of the frame it takes, the head included. The eight head
-// bytes and the bytes behind the plan stay, and a refusal changes nothing.
+// bytes and the bytes behind the plan stay, and a refusal changes nothing. `write_list` has this shape too, and stays apart: a list has no cost to test and no
+// head before it, and what is alike is `write_table`.
 pub fn write_plan(
     count: usize,
     entries: &[u64],
@@ -135,8 +136,6 @@ pub fn write_plan(
     );
     Ok(used)
 }
-
-// `write_list` has this shape too, and stays apart: a list has no cost to test and no head before it, and what is alike is `write_table`.
 
 // The tests of entries in memory and their cost.
 fn judge_memory(count: usize, entries: &[u64], cost: u64) -> Result<(), Refusal>

@@ -26,12 +26,6 @@ meeting_more a P l i v h f e = record { room = length-set l i v ∙ f.room; belo
 abbrev pub Filled : (ℕ → ℕ) → List ℕ → ℕ → Type 0
 Filled F l i = Meeting 0 (λ k v. v ≡ F k) l i
 
-pub filled_none : (F : ℕ → ℕ) (l : List ℕ) → length l ≡ 128 → Filled F l 0
-filled_none F l h = meeting_none 0 (λ k v. v ≡ F k) l h
-
-pub filled_more : (F : ℕ → ℕ) (l : List ℕ) (i v : ℕ) → i < 128 → Filled F l i → v ≡ F i → Filled F (set l i v) (i + 1)
-filled_more F l i v h f e = meeting_more 0 (λ k v. v ≡ F k) l i v h f e
-
 pub filled_first : (F : ℕ → ℕ) (l : List ℕ) → length l ≡ 128 → get_or l 0 0 ≡ F 0 → Filled F l 1
 filled_first F l h e = record { room = h; below = λ k p. let q : k ≡ 0 = omega arith in rw q e }
 
