@@ -12,6 +12,15 @@ use Rattle.bits.specs.Field.{digit, spelt}
 
 -- ---- digits
 
+-- a digit is 0 or 1
+pub digit_lt : (v k : ℕ) → digit v k < 2
+unfolding digit
+digit_lt v k = omega arith
+
+pub digit_first : (v : ℕ) → digit v 0 ≡ v % 2
+unfolding digit
+digit_first v = omega arith
+
 -- a digit of a number without its last a digits
 pub digit_shift : (v a k : ℕ) → digit (v / 2 ^ a) k ≡ digit v (a + k)
 unfolding digit

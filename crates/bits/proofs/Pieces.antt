@@ -4,14 +4,14 @@ use Prim.Native.Nat.{ℕ, ◌+◌, ◌-◌, ◌*◌, ◌/◌, ◌%◌, ◌^◌, 
 use mathlib.Core.Path.{◌≡◌, sym, ap, ◌∙◌}
 use mathlib.Core.List.{List}
 use native.Mathlib.Omega.{arith}
-use native.Mathlib.Nat.{mod-lt, mod-eq_of_lt}
+use native.Mathlib.Nat.{mod-lt, mod-eq_of_lt, mul-le-mul_left}
 use native.Mathlib.Decide.{dec_le, ℕ_discrete}
 use lib.ListN.{length, get_or, set, length-set}
 use lib.Seq.{get_or-set_same, get_or-set_other}
 use lib.Arith.{digits_lt}
 use lib.Pow.{shr-shr, high, low, pow_pos, pow-add, shr_lt}
 use Rattle.std.proofs.lemmas.Nat.{div-add-mod'}
-use Rattle.bits.specs.Field.{digit, bit, field_at, put_field, Bytes}
+use Rattle.bits.specs.Field.{digit, bit, field_at, spelt, put_field, Bytes}
 use Rattle.bits.proofs.Digits.{digit_shift, digit_last, digit_low, digit_high, spelt_same, spelt_digits}
 use Rattle.bits.proofs.Fields.{field_lt, field_add, bit_in_byte, bit_inside, bit_before, bit_behind, length_put, put_bytes, same_bits}
 
@@ -24,6 +24,20 @@ byte_field bytes k small =
     spelt_same (bit bytes) (λ i. digit (get_or bytes k 0) (8 * k + 8 - 1 - i)) (8 * k) 8 (bit_in_byte bytes k)
     ∙ spelt_digits (get_or bytes k 0) (8 * k) 8
     ∙ mod-eq_of_lt small
+
+-- the piece of a field that stands in one byte
+pub field_piece : (bytes : List ℕ) (p k : ℕ) → p % 8 + k ≤ 8 → field_at bytes p k ≡ get_or bytes (p / 8) 0 / 2 ^ (8 - p % 8 - k) % 2 ^ k
+unfolding field_at
+field_piece bytes p k one =
+    spelt_same (bit bytes) (λ i. digit (get_or bytes (p / 8) 0 / 2 ^ (8 - p % 8 - k)) (p + k - 1 - i)) p k each
+    ∙ spelt_digits (get_or bytes (p / 8) 0 / 2 ^ (8 - p % 8 - k)) p k
+  where
+    each : (i : ℕ) → p ≤ i → i < p + k → bit bytes i ≡ digit (get_or bytes (p / 8) 0 / 2 ^ (8 - p % 8 - k)) (p + k - 1 - i)
+    each i lo hi =
+        let e : 8 * (p / 8) + 8 - 1 - i ≡ 8 - p % 8 - k + (p + k - 1 - i) = omega arith in
+        bit_in_byte bytes (p / 8) i (omega arith) (omega arith)
+        ∙ ap (digit (get_or bytes (p / 8) 0)) e
+        ∙ sym (digit_shift (get_or bytes (p / 8) 0) (8 - p % 8 - k) (p + k - 1 - i))
 
 -- A turn of the reader: the bits of n bytes from byte k on, and those of the next byte, spell one number.
 pub get_turn : (bytes : List ℕ) (k n : ℕ) → get_or bytes (k + n) 0 < 256
@@ -38,6 +52,18 @@ pub field_within : (bytes : List ℕ) (p a w u : ℕ) → field_at bytes p (a + 
 field_within bytes p a w u =
     rw (field_add bytes p (a + w) u, high (field_at bytes p (a + w)) u (field_lt bytes (p + (a + w)) u), field_add bytes p a w)
     (low (field_at bytes p a) w (field_lt bytes (p + a) w))
+
+-- with no bit left the value is the field
+pub get_last : (bytes : List ℕ) (p left value whole : ℕ) → left ≤ 0 → value * 2 ^ left + field_at bytes p left ≡ whole → value ≡ whole
+unfolding field_at spelt
+get_last bytes p left value whole none e =
+    let z : left ≡ 0 = omega arith in
+    let f = rw z at e in
+    omega arith
+
+-- the value so far never outgrows the whole field
+pub turn_fits : (x r f whole : ℕ) → x * 2 ^ r + f ≡ whole → x ≤ whole
+turn_fits x r f whole e = omega (arith, mul-le-mul_left x (pow_pos r))
 
 -- ---- writing
 

@@ -26,6 +26,11 @@ pub read_next : (bytes out widths : List ℕ) (p k : ℕ) → k < length widths
 unfolding fields_at
 read_next bytes out widths p k h = rw (add-one, drop-cons widths k 0)
 
+-- with no width left nothing is read
+pub read_last : (bytes out widths : List ℕ) (p to k : ℕ) → length widths ≤ k → sets out to (fields_at bytes p (drop k widths)) ≡ out
+unfolding fields_at
+read_last bytes out widths p to k h = rw drop_of_length-le
+
 -- what the next width of those that are left says: it is narrow, and the rest has what it leaves
 pub next_width : (widths rest : List ℕ) (w : ℕ) → widths ≡ w ∷ rest → AtMost 64 widths → (w ≤ 64) × (total widths ≡ w + total rest) × AtMost 64 rest
 unfolding total
@@ -61,6 +66,14 @@ unfolding rows
 rows_more zero widths = rw append-nil
 rows_more (suc row) widths =
     rw add-one (ap (λ (l : List ℕ). widths ++ l) (rw add-one at (rows_more row widths)) ∙ sym (append_assoc widths (rows row widths) widths))
+
+-- with no row left there is none, and before the first all are left
+pub rows_last : (count row : ℕ) (widths : List ℕ) → count ≤ row → rows (count - row) widths ≡ []
+unfolding rows
+rows_last count row widths h = let e : count - row ≡ 0 = omega arith in rw e
+
+pub rows_first : (count : ℕ) (widths : List ℕ) → rows (count - 0) widths ≡ rows count widths
+rows_first count widths = let e : count - 0 ≡ count = omega arith in rw e
 
 -- a row of so many stands within the bits, and within the values, of them all
 pub row_within : (count row : ℕ) (widths : List ℕ) → row < count

@@ -1,10 +1,10 @@
 -- Laws of lowest terms: a fraction in lowest terms keeps its value, is no larger than what it comes from, and is the only one of that value.
 -- The last stands on `gcd_scale`: of two equal fractions in lowest terms, N D' over D D' has the greatest common divisor D', and N' D over D D' has D.
 -- Assumes nothing.
-use Prim.Native.Nat.{ℕ, zero, suc, ◌*◌, ◌<◌, ◌≤◌}
+use Prim.Native.Nat.{ℕ, zero, suc, ◌*◌, ◌<◌, ◌≤◌, ◌^◌}
 use mathlib.Core.Path.{◌≡◌, ap}
 use native.Mathlib.Omega.{arith}
-use native.Mathlib.Nat.{div-mul_cancel, div-le_self, mul-dvd-mul_right, dvd_of_mul-dvd-mul_right, eq-one_of_dvd-one, one-mul, mul_comm, eq_of_mul-eq-mul_right}
+use native.Mathlib.Nat.{div-mul_cancel, div-le_self, mul-dvd-mul_right, dvd_of_mul-dvd-mul_right, eq-one_of_dvd-one, one-mul, mul_comm, eq_of_mul-eq-mul_right, mul-le-mul_left, mul-lt-mul_of_pos_right, lt_of_le_of_lt, le_of_lt}
 use Rattle.fractions.specs.Fraction.{gcd, lowest_n, lowest_d, Lowest}
 use Rattle.fractions.proofs.Euclid.{gcd_left, gcd_right, gcd_greatest, gcd_positive, gcd_scale}
 
@@ -75,3 +75,8 @@ pub one_form : (n d n' d' : ℕ) → 0 < d → 0 < d' → Lowest n d → Lowest 
 one_form n d n' d' p p' l l' e =
     let same : d ≡ d' = same_d n d n' d' p p' l l' e in
     (eq_of_mul-eq-mul_right d p n n' (omega (arith, e, ap (λ (x : ℕ). n * x) same)), same)
+
+-- a product of two figures below 2^32 fits 64 bits
+pub cross_fits : {a b : ℕ} → a < 2 ^ 32 → b < 2 ^ 32 → a * b < 2 ^ 64
+cross_fits {a} {b} ha hb =
+    lt_of_le_of_lt (mul-le-mul_left a (le_of_lt hb)) (mul-lt-mul_of_pos_right {k = 2 ^ 32} ha (omega arith))

@@ -3,7 +3,8 @@ use Prim.Native.Nat.{ℕ, ◌+◌, ◌*◌, ◌<◌, ◌≤◌, ◌^◌}
 use mathlib.Core.Path.{◌≡◌, refl}
 use mathlib.Core.List.{List, [], ◌++◌}
 use native.Mathlib.Omega.{arith}
-use lib.ListN.{length, take}
+use native.Mathlib.Nat.{add-zero}
+use lib.ListN.{length, get_or, take}
 use lib.Seq.{sets}
 use lib.Dec.{eqb, ltb, leb}
 use borrow.Author.Tests.{eqb-false, ltb-false, leb-false, ne_eqb, le-ltb, lt-leb}
@@ -96,3 +97,10 @@ pub tests_first : (count : ℕ) (entries : List ℕ) → entry_numbers * count �
     → entry_tests count 0 (take (entry_numbers * count) entries) ≡ entry_tests count 0 entries
 unfolding entry_tests
 tests_first = rows_first entry_numbers entry_at entry_own
+
+-- the tests of entry i, which stands at number `at`
+pub test_at : (entries : List ℕ) (i at : ℕ) → at ≡ entry_numbers * i
+    → entry_test i (get_or entries at 0) (get_or entries (at + 1) 0) (get_or entries (at + 2) 0) (get_or entries (at + 3) 0) (get_or entries (at + 4) 0) (get_or entries (at + 5) 0)
+    ≡ entry_at entries i
+unfolding entry_at
+test_at entries i at place = rw (place, add-zero)
