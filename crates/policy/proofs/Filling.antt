@@ -1,6 +1,6 @@
 -- Arrays of 128 that a loop fills from the front. Assumes nothing.
 use Prim.Native.Nat.{ℕ, ◌+◌, ◌<◌, ◌≤◌}
-use mathlib.Core.Path.{◌≡◌, ◌∙◌}
+use mathlib.Core.Path.{◌≡◌, refl, ◌∙◌}
 use mathlib.Core.List.{List}
 use native.Mathlib.Omega.{arith}
 use native.Mathlib.Decide.{ℕ_discrete}
@@ -33,6 +33,9 @@ filled_first F l h e = record { room = h; below = λ k p. let q : k ≡ 0 = omeg
 pub record Halfway {A : Type 0} (a : A) (F : ℕ → A) (l₀ l : List A) (i : ℕ) : Type 0 where
   pub filled : Meeting a (λ k v. v ≡ F k) l i
   pub above : (k : ℕ) → i ≤ k → get_or l k a ≡ get_or l₀ k a
+
+pub halfway_none : {A : Type 0} (a : A) (F : ℕ → A) (l : List A) → length l ≡ 128 → Halfway a F l l 0
+halfway_none a F l h = record { filled = meeting_none a _ l h; above = λ k p. refl }
 
 pub halfway_more : {A : Type 0} (a : A) (F : ℕ → A) (l₀ l : List A) (i : ℕ) (v : A) → i < 128 → Halfway a F l₀ l i → v ≡ F i → Halfway a F l₀ (set l i v) (i + 1)
 halfway_more a F l₀ l i v h f e =

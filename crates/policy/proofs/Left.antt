@@ -1,13 +1,14 @@
 -- The weight that is left inside an interval, as the interval grows and as rates are given. Every fact is one about a single index, by cases on
 -- its tests, lifted by a law of sums. Assumes nothing.
-use Prim.Native.Nat.{ℕ, ◌+◌, ◌<◌, ◌≤◌}
+use Prim.Native.Nat.{ℕ, suc, ◌+◌, ◌<◌, ◌≤◌}
 use mathlib.Core.Path.{◌≡◌, refl, ap}
 use mathlib.Core.Bool.{Bool, true, false, not, ◌&&◌}
 use mathlib.Core.Logic.{◌⊎◌, inl, inr}
 use native.Mathlib.Omega.{arith}
+use native.Mathlib.Decide.{dec_lt, ℕ_discrete}
 use native.Mathlib.Nat.{le_refl, le_trans}
-use borrow.Author.Tests.{leb-true, le-leb}
-use lib.Dec.{leb}
+use borrow.Author.Tests.{leb-true, le-leb, lt-ltb, le-ltb, eq-eqb, ne_eqb}
+use lib.Dec.{eqb, leb, ltb}
 use Rattle.policy.specs.Windows.{Windows, Given, none, rate, unassigned, inside, only_if, left, choose, assign, sum}
 use Rattle.policy.proofs.Sums.{sum_eq, sum_le, sum_add, sum_some}
 
@@ -66,6 +67,18 @@ pub only_if_most : (b : Bool) (x : ℕ) → only_if b x ≤ x
 unfolding only_if
 only_if_most true x = omega arith
 only_if_most false x = omega arith
+
+-- those below a bound and those at it
+pub place_more : (p m v : ℕ) → only_if (ltb p m) v + only_if (eqb p m) v ≡ only_if (ltb p (suc m)) v
+place_more p m v = go (dec_lt p m) (ℕ_discrete p m)
+  where
+    go : Dec (p < m) → Dec (p ≡ m) → only_if (ltb p m) v + only_if (eqb p m) v ≡ only_if (ltb p (suc m)) v
+    go (yes a) b =
+        rw (lt-ltb p m a, ne_eqb p m (λ e. omega (arith, a, e)), lt-ltb p (suc m) (omega (arith, a))) (unfold only_if in omega arith)
+    go (no a) (yes b) =
+        rw (le-ltb p m (omega (arith, a)), eq-eqb p m b, lt-ltb p (suc m) (omega (arith, b))) (unfold only_if in omega arith)
+    go (no a) (no b) =
+        rw (le-ltb p m (omega (arith, a)), ne_eqb p m b, le-ltb p (suc m) (omega (arith, a, b))) (unfold only_if in omega arith)
 
 pub only_if_some : (a : Bool) (x : ℕ) → 0 < only_if a x → (a ≡ true) × (0 < x)
 unfolding only_if

@@ -30,7 +30,7 @@ pub record EpochsLeft (day : Day) (done : Progress) (n : ℕ) (points : List ℕ
   pub room_is : (k : ℕ) → k < day.epochs.count → room k ≡ only_if (unassigned (done.epoch k)) (day.epochs.weight k)
 
 -- a longer sum is not less
-sum_up : (f : ℕ → ℕ) (a b : ℕ) → a ≤ b → sum a f ≤ sum b f
+pub sum_up : (f : ℕ → ℕ) (a b : ℕ) → a ≤ b → sum a f ≤ sum b f
 unfolding sum
 sum_up f zero zero h = omega arith
 sum_up f (suc a) zero h = absurd (omega arith)

@@ -4,7 +4,7 @@ use mathlib.Core.Path.{◌≡◌, refl, sym, ap, ap₂, subst, ◌∙◌}
 use mathlib.Core.List.{List, [], ◌∷◌, ◌++◌}
 use native.Mathlib.Omega.{arith}
 use native.Mathlib.Numerals.{add-one, add-two, add-three}
-use lib.ListN.{length, get_or, drop, set, length-append}
+use lib.ListN.{length, get_or, drop, set, length-append, length-drop}
 use lib.Seq.{drop-cons}
 use Rattle.policy.specs.Windows.{Given}
 use Rattle.policy.specs.Answer.{epoch_numbers, epoch_rows, shown_n, shown_d, overwritten}
@@ -44,6 +44,13 @@ pub record RowsSoFar (points : List ℕ) (given : ℕ → Given) (lent rates : L
 pub rows_first : (points : List ℕ) (given : ℕ → Given) (lent : List ℕ) → RowsSoFar points given lent lent 0
 unfolding epoch_rows
 rows_first points given lent = record { is = refl }
+
+-- the length stays
+pub rows_long : (points : List ℕ) (given : ℕ → Given) (lent rates : List ℕ) (k : ℕ) → RowsSoFar points given lent rates k → epoch_numbers * k ≤ length lent
+    → length rates ≡ length lent
+rows_long points given lent rates k s h =
+    ap length s.is ∙ length-append (epoch_rows points given k) (drop (epoch_numbers * k) lent) ∙
+    omega (arith, rows_length points given k, length-drop (epoch_numbers * k) lent)
 
 -- one row more
 pub rows_next : (points : List ℕ) (given : ℕ → Given) (lent rates : List ℕ) (k v w : ℕ) → RowsSoFar points given lent rates k

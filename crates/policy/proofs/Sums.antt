@@ -12,6 +12,12 @@ unfolding sum
 sum_eq zero f g h = refl
 sum_eq (suc n) f g h = omega (arith, sum_eq n f g (λ i p. h i (omega arith)), h n (omega arith))
 
+-- a sum of ones counts them
+pub sum_ones : (n : ℕ) → sum n (λ k. 1) ≡ n
+unfolding sum
+sum_ones zero = refl
+sum_ones (suc n) = omega (arith, sum_ones n)
+
 -- term by term
 pub sum_le : (n : ℕ) (f g : ℕ → ℕ) → ((i : ℕ) → i < n → f i ≤ g i) → sum n f ≤ sum n g
 unfolding sum

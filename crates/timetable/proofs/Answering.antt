@@ -19,8 +19,10 @@ use Rattle.timetable.specs.declared.Timetable.{Timetable}
 use Rattle.timetable.specs.declared.entry.Entry as Made
 use Rattle.timetable.specs.Entries.{Entry, entries_of, entry_numbers, numbers_of}
 use Rattle.timetable.specs.Costs.{cost_of}
+use Rattle.timetable.specs.Right.{most_entries}
 use Rattle.timetable.specs.Steps.{Planned, entry_of}
 use Rattle.timetable.specs.Answer.{Timetabled, entries_after, timetable_answer_of, timetables_outcome}
+use Rattle.timetable.proofs.Lists.{timetable}
 
 -- ## The cases
 
@@ -39,6 +41,10 @@ kept_timetabled {lent = lent} {exit = exit} {answer = answer} kept t = subst₂ 
 
 module _ (count : ℕ) (records : List ℕ) (accepted : Accepted count records) (lent : List ℕ) (entries : List Made.Entry) (made : Timetable)
     (p : Planned count records entries made) where
+  -- the entries fit the array
+  pub made_few : made.entries ≤ most_entries
+  made_few = omega (arith, p.count_is, (timetable count records accepted).few)
+
   -- too little room
   pub short_of_room : length lent < entry_numbers * made.entries → Timetabled count records lent (Err NoRoom) lent
   unfolding entries_after

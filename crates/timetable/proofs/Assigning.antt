@@ -19,6 +19,7 @@ use Rattle.policy.specs.Figures.{largest_air}
 use Rattle.policy.proofs.Accepting.{air_most}
 use Rattle.policy.proofs.Proper.{RateInRange}
 use Rattle.policy.proofs.Facts.{assigned}
+use Rattle.policy.proofs.Measuring.{sum_up}
 use Rattle.timetable.specs.Setting.{most_rate, setting}
 use Rattle.timetable.specs.Entries.{units_of}
 use Rattle.timetable.specs.Costs.{cost_of, radio_cost}
@@ -113,3 +114,10 @@ costs_are count records =
 
 pub costs_fit : (count : ℕ) (records : List ℕ) → Accepted count records → L.sum (map (cost_at count records) (range_with_len 0 count)) < 2 ^ 64
 costs_fit count records accepted = omega (arith, costs_are count records, cost_fits count records accepted)
+
+-- the costs of the first i packets, added up
+pub cost_part : (count : ℕ) (records : List ℕ) → Accepted count records → (i : ℕ) → i ≤ count → sum i (cost_at count records) < 2 ^ 44
+cost_part count records accepted i h = omega (arith, cost_fits count records accepted, sum_up (cost_at count records) i count h, all)
+  where
+    all : sum count (cost_at count records) ≡ cost_of count records
+    all = unfold cost_at cost_of radio_cost priced day_of packets_of in refl

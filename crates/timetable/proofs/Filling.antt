@@ -6,7 +6,7 @@ use mathlib.Core.Bool.{Bool, ◌&&◌}
 use mathlib.Core.List.{List, [], ◌∷◌, ◌++◌, map, map-append}
 use native.Mathlib.Omega.{arith}
 use native.Mathlib.Decide.{ℕ_discrete}
-use native.Mathlib.Nat.{add_comm}
+use native.Mathlib.Nat.{add_comm, mul-le-mul}
 use native.Mathlib.Numerals.{add-one}
 use lib.ListN.{length, get_or, take, set, length-append, length-set}
 use lib.Seq.{get_or-set_same, get_or-set_other, take-suc-set}
@@ -24,7 +24,7 @@ use Rattle.policy.proofs.Sums.{sum_at}
 use Rattle.policy.proofs.Proper.{RateInRange}
 use Rattle.timetable.specs.declared.entry.Entry as Made
 use Rattle.timetable.specs.declared.epoch.Epoch.{Epoch}
-use Rattle.timetable.specs.Setting.{setting}
+use Rattle.timetable.specs.Setting.{setting, most_rate}
 use Rattle.timetable.specs.Entries.{Choice, nobody, packet, Entry, Sheet, begun, candidate, earliest, eligible, filled, less, next_in, sent, sheet_at, sooner, turn_of, turns, units_in}
 use Rattle.timetable.specs.Right.{most_entries}
 use Rattle.timetable.specs.Steps.{Carrying, Sheeted, among, entry_of, next_of, number_of, sendable_at}
@@ -113,6 +113,9 @@ module _ (count : ℕ) (records : List ℕ) (accepted : Accepted count records) 
 
   pub full_is : (full : ℕ) → full ≡ (epoch.end - epoch.start) * epoch.rate.n → full ≡ units_in day k epoch.rate.n
   full_is full e = e ∙ ap (λ (x : ℕ). x * epoch.rate.n) seconds_are ∙ (unfold units_in in refl)
+
+  pub full_fits : (full : ℕ) → full ≡ (epoch.end - epoch.start) * epoch.rate.n → full ≤ last_second * most_rate
+  full_fits full e = subst (λ (x : ℕ). x ≤ last_second * most_rate) (sym e) (mul-le-mul seconds_fit rate_fits.n_most)
 
   -- ## One epoch
 
