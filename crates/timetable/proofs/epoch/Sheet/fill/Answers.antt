@@ -39,7 +39,7 @@ loop-packet-smaller c = let t = turn (goal.at.loop-packet-smaller c).In-Some in 
 pub loop-packet-preserved : goal.loop-packet-preserved
 loop-packet-preserved c =
     filling_next _ _ c.args.assigned.now.packets.accepted _ c.requires.carrying _ c.args.assigned.now.assigned _ _ _ _ _
-    (full_is _ _ c.args.assigned.now.packets.accepted _ c.requires.carrying _ c.cross-full.ensures) c.loop-packet.invariant _ c.in-Some.ensures.choice _ _ c.min-y.ensures
+    (full_is _ _ c.args.assigned.now.packets.accepted _ c.requires.carrying _ c.cross-full.ensures) c.loop-packet.invariant _ c.in-Some.ensures.choice _ _ (omega (arith, c.min-y.ensures))
     c.setting_of-r.ensures
 
 pub returns : goal.returns
