@@ -1,25 +1,19 @@
 -- `packets::tables::read_table` meets its contract: a table that passes its tests lies inside the bytes, and its rows inside the room. Assumes nothing.
-use Rattle.std.proofs.Common.{◌≤◌, [], length, arith, sym, mul-le-mul_left}
+use Rattle.std.proofs.Common.{◌≤◌, [], arith, sym, mul-le-mul_left}
+use Rattle.std.proofs.lemmas.Result.{err_from_is_err_and}
 use Rattle.bits.specs.Table.{total}
 use Rattle.bits.proofs.Tables.{total_rows}
-use Rattle.packets.proofs.Wire.{Readable, table_readable, whole_bits}
-use Rattle.packets.proofs.tables.read_table.Given as given
+use Rattle.packets.proofs.Wire.{table_readable, whole_bits}
 use Rattle.packets.proofs.tables.read_table.Goals as goal
-use Rattle.packets.proofs.tables.read_table.Goals.{In_ok-count}
-
--- the table is read
-readable : (g : given.Over) (c : In_ok-count g)
-    → Readable g.T.Table.form c.args.bytes.now (length c.args.lent.now)
-readable g c = (table_readable _ _ _ [] [] (sym (c.in_ok-count.ensures.passed.1 []))).1
 
 pub read_rows-requires-clause-inside_bytes : goal.read_rows-requires-clause-inside_bytes
 read_rows-requires-clause-inside_bytes g c =
-    let r = readable g (goal.at.read_rows-requires-clause-inside_bytes g c).In_ok-count in
+    let r = (table_readable _ _ _ [] [] (sym (c.in_ok-count.ensures.passed.1 []))).1 in
     rw (c.head_width.ensures, c.row_widths.ensures) (whole_bits _ _ _ _ _ r.whole c.in_ok-count.ensures.passed.0)
 
 pub read_rows-requires-clause-position_fits : goal.read_rows-requires-clause-position_fits
 read_rows-requires-clause-position_fits g c =
-    let r = readable g (goal.at.read_rows-requires-clause-position_fits g c).In_ok-count in
+    let r = (table_readable _ _ _ [] [] (sym (c.in_ok-count.ensures.passed.1 []))).1 in
     let n = c.in_ok-count.ensures.passed.0 in
     let few = r.whole.few in
     let fits = g.met.T.Table.laws.bits_fit in
@@ -29,6 +23,11 @@ read_rows-requires-clause-position_fits g c =
 
 pub read_rows-requires-clause-inside_out : goal.read_rows-requires-clause-inside_out
 read_rows-requires-clause-inside_out g c =
-    let r = readable g (goal.at.read_rows-requires-clause-inside_out g c).In_ok-count in
+    let r = (table_readable _ _ _ [] [] (sym (c.in_ok-count.ensures.passed.1 []))).1 in
     let held = rw (← c.in_ok-count.ensures.passed.0) at r.held in
     rw c.row_widths.ensures (omega arith)
+
+pub returns-in_err-count-clause-refused : goal.returns-in_err-count-clause-refused
+returns-in_err-count-clause-refused g c =
+    let p = err_from_is_err_and c.from_residual.result c.from_residual.ensures.1 in
+    rw (p.1, p.2) c.in_err-count.ensures.refused
