@@ -1,6 +1,6 @@
 -- The outcome of the call, case by case, and that its promise admits one answer only: the outcome gives the answer, and the records and the lent room
 -- give what is in the lent room at the end. Assumes nothing.
-use Prim.Native.Nat.{ℕ, pred, ◌-◌, ◌*◌, ◌<◌, ◌≤◌}
+use Prim.Native.Nat.{ℕ, zero, suc, pred, ◌-◌, ◌*◌, ◌<◌, ◌≤◌}
 use mathlib.Core.Path.{◌≡◌, refl, sym, ap, ap₂, subst₂, ◌∙◌}
 use mathlib.Core.List.{List, [], ◌∷◌}
 use native.Mathlib.Omega.{arith}
@@ -17,13 +17,22 @@ use Rattle.packets.proofs.Answers.{answer_one}
 use Rattle.policy.specs.declared.RatesSize.{RatesSize}
 use Rattle.policy.specs.declared.rates.Rates.{Rates}
 use Rattle.policy.specs.Points.{points_of, epochs_of}
+use Rattle.policy.specs.Windows.{rate}
 use Rattle.policy.specs.Rounds.{outcome_of}
-use Rattle.policy.specs.Answer.{epoch_rate_of, given_at, rates_answer_of, epoch_numbers, epoch_rows, epoch_count, rates_of, rates_outcome, overwritten, rates_after, EpochsRated}
+use Rattle.policy.specs.Answer.{epoch_rate_of, given_at, given_by, rates_answer_of, epoch_numbers, epoch_rows, epoch_count, rates_of, rates_outcome, overwritten, rates_after, EpochsRated}
 use Rattle.policy.specs.declared.EpochRate.{EpochRate}
 use Rattle.policy.specs.declared.EpochRate.TheVariants.{Silent, Carries}
 use Rattle.policy.specs.Steps.{Rated}
 use Rattle.policy.proofs.Rows.{rows_same}
 use Rattle.policy.proofs.Turning.{point_at}
+
+-- ## N and D
+
+-- a D above 0 gives the rate
+pub given_rate : (n d : ℕ) → 0 < d → given_by n d ≡ rate n d
+unfolding given_by
+given_rate n zero h = absurd (omega (arith, h))
+given_rate n (suc d) h = refl
 
 -- ## The cases
 

@@ -21,6 +21,11 @@ abbrev pub given_of : Option Rate → Given
 given_of None = none
 given_of (Some carried) = rate carried.n carried.d
 
+-- what N and D say: a D of 0 is no rate
+unfoldable pub given_by : ℕ → ℕ → Given
+given_by n zero = none
+given_by n (suc d) = rate n (suc d)
+
 -- what an epoch was given: nothing where it is silent, else its rate
 abbrev pub epoch_rate_of : EpochRate → Given
 epoch_rate_of Silent = none

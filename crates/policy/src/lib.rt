@@ -10,7 +10,7 @@ pub mod setup;
 pub mod spans;
 
 ghost use Rattle.std.specs.Prelude.{◌≡◌, ◌*◌, ◌≤◌, length};
-ghost use Rattle.policy.specs.Answer.{EpochsRated, epoch_numbers, epoch_rate_of, given_of, epoch_rows, given_at, overwritten, shown_d, shown_n};
+ghost use Rattle.policy.specs.Answer.{EpochsRated, epoch_numbers, epoch_rate_of, given_by, given_of, epoch_rows, given_at, overwritten, shown_d, shown_n};
 ghost use Rattle.policy.specs.Figures.{most_points};
 
 use crate::rates::{Rates, rates_of};
@@ -45,6 +45,16 @@ impl From<Option<Rate>> for EpochRate {
             Some(rate) => EpochRate::Carries(rate),
         }
     }
+}
+
+// What N and D say of an epoch (bytes per second): a D of 0 is a silent epoch.
+pub fn epoch_rate(n: u64, d: u64) -> EpochRate
+    ensures { epoch_rate_of result ≡ given_by n d }
+{
+    if d == 0 {
+        return EpochRate::Silent;
+    }
+    EpochRate::Carries(Rate { n, d })
 }
 
 // The rate of every epoch (bytes per second, lowest terms; 0/1 for a silent one) with its start (seconds), and the number of rounds.
