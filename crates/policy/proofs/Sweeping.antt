@@ -1,16 +1,21 @@
 -- The turns of the sweep, over plain variables. Assumes nothing.
-use Prim.Native.Nat.{ℕ, suc, ◌+◌, ◌-◌, ◌*◌, ◌/◌, ◌^◌, ◌<◌, ◌≤◌}
-use mathlib.Core.Path.{◌≡◌, refl, sym, ap, ap₂, ◌∙◌}
+use Prim.Native.Nat.{ℕ, zero, suc, ◌+◌, ◌-◌, ◌*◌, ◌/◌, ◌^◌, ◌<◌, ◌≤◌}
+use mathlib.Core.Path.{◌≡◌, refl, sym, ap, ap₂, subst, ◌∙◌}
 use mathlib.Core.Bool.{Bool, true, false, ◌&&◌}
 use native.Mathlib.Omega.{arith}
 use native.Mathlib.Numerals.{add-one}
 use lib.Dec.{leb, ltb}
+use lib.ListN.{length, take}
+use lib.Seq.{get_or-take, length-take-le}
 use native.Mathlib.Decide.{dec_lt}
 use borrow.Author.Tests.{lt-leb, le-leb, lt-ltb, le-ltb}
-use Rattle.std.specs.Prelude.{Option, Some, None, IfSome}
+use Rattle.std.specs.Prelude.{List, Option, Some, None, IfSome}
+use Rattle.std.specs.List.{AllWithin, HoldsAt}
+use Rattle.std.specs.Option.{MatchOption, unwrap_or}
 use Rattle.policy.specs.declared.densest.Leader.{Leader}
 use Rattle.policy.specs.declared.densest.Left.{Left}
 use Rattle.policy.specs.declared.row.Due.{Due}
+use Rattle.policy.specs.Ranges.{due_at}
 use Rattle.policy.specs.Windows.{sum, choose, only_if}
 use Rattle.policy.specs.Steps.{counted_from, due_to, swept, goes_ahead, considered, led, Small, leader_ahead}
 use Rattle.policy.proofs.Left.{only_if_most}
@@ -77,6 +82,45 @@ pub record SweptSoFar (due : ℕ → Due) (left : ℕ → Left) (s base : ℕ) (
 pub swept_first : (due : ℕ → Due) (left : ℕ → Left) (s base : ℕ) (best : Option Leader) → IfSome best Small → SweptSoFar due left s base best best 0 0
 swept_first due left s base best h =
     record { leads = unfold swept in refl; small = h; load_is = unfold due_to sum in refl; load_most = omega arith }
+
+-- what stands at no place
+abbrev nobody : Due
+nobody = record { packet = 0; arrival = 0; arrival_point = 0; deadline = 0; deadline_point = 0; last = false }
+
+-- before the first of the front that arrives from s on, all arrive before s
+pub front_early : (row : List Due) (count s : ℕ) (r : Option ℕ) → count ≤ length row
+    → MatchOption r (AllWithin (λ (due : Due). due.arrival < s) (take count row) 0 (length (take count row)))
+    (λ i. (i < length (take count row)) × HoldsAt (λ (due : Due). s ≤ due.arrival) (take count row) i × AllWithin (λ (due : Due). due.arrival < s) (take count row) 0 i)
+    → (j : ℕ) → j < unwrap_or r count → (due_at row j).arrival < s
+front_early row count s None h a j p =
+    let e = get_or-take count row j nobody p in
+    subst (λ (due : Due). due.arrival < s) e (a j nobody (omega arith) (omega (arith, p, length-take-le count row h)))
+front_early row count s (Some i) h a j p =
+    let e = get_or-take count row j nobody (omega (arith, p, a.0, length-take-le count row h)) in
+    subst (λ (due : Due). due.arrival < s) e (a.2 j nobody (omega arith) p)
+
+-- what arrives before s does not count, and adds nothing to a load of 0
+early_counts_nothing : (s from weight : ℕ) → from < s → 0 ≡ counted_from s from weight
+unfolding counted_from only_if
+early_counts_nothing s from weight h = rw (lt-leb s from h) refl
+
+early_adds_nothing : (due : ℕ → Due) (left : ℕ → Left) (s j : ℕ) → 0 ≡ due_to due left s j → (due j).arrival < s → 0 ≡ due_to due left s (suc j)
+unfolding due_to sum
+early_adds_nothing due left s j p h = ap₂ ◌+◌ p (early_counts_nothing s (due j).arrival (left j).bytes h)
+
+early_leaves : (due : ℕ → Due) (left : ℕ → Left) (s base : ℕ) (best : Option Leader) (j : ℕ) → 0 ≡ due_to due left s (suc j)
+    → swept due left s base best j ≡ swept due left s base best (suc j)
+unfolding swept
+early_leaves due left s base best j p = empty_loses (swept due left s base best j) (due j).last _ (sym p)
+
+-- so a front of the row that arrives before s leaves the leader as it was
+pub swept_early : (due : ℕ → Due) (left : ℕ → Left) (s base : ℕ) (best : Option Leader) (j : ℕ) → ((k : ℕ) → k < j → (due k).arrival < s) → IfSome best Small
+    → SweptSoFar due left s base best best 0 j
+swept_early due left s base best zero h b = swept_first due left s base best b
+swept_early due left s base best (suc j) h b =
+    let t = swept_early due left s base best j (λ k p. h k (omega (arith, p))) b in
+    let none = early_adds_nothing due left s j t.load_is (h j (omega arith)) in
+    record { leads = t.leads ∙ early_leaves due left s base best j none; small = b; load_is = none; load_most = omega arith }
 
 -- what is counted without a branch: above 2^32 stands 1 from s on, and 0 before
 pub counted_so : (s from weight : ℕ) → s < 2 ^ 32 → from < 2 ^ 32 → (from + 2 ^ 32 - s) / 2 ^ 32 * weight ≡ counted_from s from weight

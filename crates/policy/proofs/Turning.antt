@@ -44,13 +44,13 @@ pub record Agrees (day : Day) (done : Progress) (gifts : Gifts) : Type 0 where
   pub packets : (i : ℕ) → i < day.packets.count → given_at gifts.packets i ≡ done.packet i
   pub epochs : (k : ℕ) → k < day.epochs.count → given_at gifts.epochs k ≡ done.epoch k
 
-pub agrees_first : (day : Day) → day.packets.count ≤ 128 → day.epochs.count ≤ 128
-    → Agrees day at_first (record { packets = replicate 128 None; epochs = replicate 128 None })
+pub agrees_first : (day : Day) (m n : ℕ) → day.packets.count ≤ m → day.epochs.count ≤ n
+    → Agrees day at_first (record { packets = replicate m None; epochs = replicate n None })
 unfolding at_first
-agrees_first day h g =
+agrees_first day m n h g =
     record {
-      packets = λ i r. ap given_of (get_or-replicate 128 i None None (omega arith));
-      epochs = λ k r. ap given_of (get_or-replicate 128 k None None (omega arith));
+      packets = λ i r. ap given_of (get_or-replicate m i None None (omega (arith, h, r)));
+      epochs = λ k r. ap given_of (get_or-replicate n k None None (omega (arith, g, r)));
     }
 
 given_chosen : (t : Bool) (rate : Rate) (had : Option Rate) → given_of (choose t (Some rate) had) ≡ choose t (Windows.rate rate.n rate.d) (given_of had)
@@ -361,11 +361,11 @@ module _ (count : ℕ) (records : List ℕ) (accepted : Accepted count records) 
     -- ## The beginning and the end
 
     -- at first nothing is given
-    pub first_agrees : Agrees day (after day 0) (record { packets = replicate 128 None; epochs = replicate 128 None })
+    pub first_agrees : Agrees day (after day 0) (record { packets = replicate 64 None; epochs = replicate 128 None })
     unfolding after
-    first_agrees = agrees_first day packets_few epochs_few
+    first_agrees = agrees_first day 64 128 packets_few epochs_few
       where
-        packets_few : day.packets.count ≤ 128
+        packets_few : day.packets.count ≤ 64
         packets_few = unfold day_of packets_of in omega (arith, accepted.few)
 
         fewer : pred (length P) ≤ 128

@@ -5,12 +5,13 @@ use crate::densest::Leader;
 use crate::points::Points;
 use crate::setup::Setup;
 use fractions::{Rate, lowest};
+use packets::judge::MOST_PACKETS;
 use packets::packets::Packets;
 
 // What each packet and each epoch was given (bytes per second); None is nothing yet.
 #[derive(Clone, Copy)]
 pub struct Gifts {
-    pub packets: [Option<Rate>; 128],
+    pub packets: [Option<Rate>; MOST_PACKETS],
     pub epochs: [Option<Rate>; 128],
 }
 
@@ -18,7 +19,7 @@ pub struct Gifts {
 #[derive(Clone, Copy)]
 pub struct Rates {
     pub points: Points,
-    pub packets: [Option<Rate>; 128],
+    pub packets: [Option<Rate>; MOST_PACKETS],
     pub epochs: [Option<Rate>; 128],
     pub rounds: usize,
 }
@@ -31,7 +32,7 @@ pub fn rates_of(packets: Packets) -> Rates
 {
     let setup = Setup::of(packets);
     let mut gifts = Gifts {
-        packets: [None; 128],
+        packets: [None; MOST_PACKETS],
         epochs: [None; 128],
     };
     let mut rounds = 0;

@@ -4,6 +4,7 @@ ghost use Rattle.policy.specs.Ranges.{Ready};
 use crate::points::Points;
 use crate::row::{Due, by_deadline};
 use crate::spans::Spans;
+use packets::judge::MOST_PACKETS;
 use packets::packets::Packets;
 
 // The points (seconds), the packets' and the epochs' windows, and the row.
@@ -12,7 +13,7 @@ pub struct Setup {
     pub points: Points,
     pub packets: Spans,
     pub epochs: Spans,
-    pub row: [Due; 128],
+    pub row: [Due; MOST_PACKETS],
     ghost ready: { Ready points packets epochs row },
 }
 

@@ -98,7 +98,8 @@ impl Spans {
     }
 
     // Those that have no rate yet and lie inside the interval are given the rate.
-    pub(crate) fn give(&self, rates: &mut [Option<Rate>; 128], interval: &Leader, rate: Rate)
+    pub(crate) fn give(&self, rates: &mut [Option<Rate>], interval: &Leader, rate: Rate)
+        requires { self.now.count ≤ length rates.old }
         ensures { Shared self.now rates.old interval.now.start interval.now.end rate rates.new }
     {
         for i in 0..self.count {

@@ -5,13 +5,14 @@ ghost use Rattle.timetable.specs.Steps.{PacketRates, RateIs, UnitsAtFirst, cost_
 
 use crate::epoch::{Epoch, setting_of};
 use fractions::{Rate, cross};
+use packets::judge::MOST_PACKETS;
 use packets::packets::Packets;
 
 // Accepted packets, and the rate that each was assigned (bytes per second).
 #[derive(Clone, Copy)]
 pub struct Assigned<'a> {
     pub packets: Packets<'a>,
-    pub rates: &'a [Option<Rate>; 128],
+    pub rates: &'a [Option<Rate>; MOST_PACKETS],
     ghost assigned: { PacketRates packets.count packets.records.now rates.now },
 }
 

@@ -2,12 +2,12 @@
 use Rattle.std.proofs.Common.{◌+◌, arith}
 use Rattle.policy.specs.Ranges.{due_at}
 use Rattle.policy.specs.Steps.{Small}
-use Rattle.policy.proofs.Sweeping.{swept_first, swept_next, load_fits}
+use Rattle.policy.proofs.Sweeping.{swept_early, swept_next, load_fits}
 use Rattle.policy.proofs.setup.Setup.sweep.Goals as goal
 use Rattle.policy.proofs.setup.Setup.sweep.Goals.{After-saturating_sub}
 
 pub loop-j-init : goal.loop-j-init
-loop-j-init c = swept_first _ _ _ _ _ c.requires.2
+loop-j-init c = swept_early _ _ _ _ _ _ c.early-j.ensures.early c.requires.2
 
 pub overflow_add-load : goal.overflow_add-load
 overflow_add-load c =

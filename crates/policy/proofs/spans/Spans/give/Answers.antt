@@ -1,5 +1,5 @@
 -- `policy::spans::Spans::give` meets its contract: the goals that the check leaves. What the loop keeps is in Invariants.antt. Assumes nothing.
-use Rattle.std.proofs.Common.{◌<◌, ◌∙◌, arith, sym}
+use Rattle.std.proofs.Common.{◌<◌, ◌∙◌, arith, length, sym}
 use Rattle.policy.proofs.Filling.{halfway_more, halfway_same}
 use Rattle.policy.proofs.Giving.{gift_taken, gift_outside, gift_held}
 use Rattle.policy.proofs.spans.Spans.give.Goals as goal
@@ -7,7 +7,7 @@ use Rattle.policy.proofs.spans.Spans.give.Goals.{then-is_none+then-lies_inside, 
 
 pub loop-i-preserved : goal.loop-i-preserved
 loop-i-preserved c =
-    let here : c.loop-i.i < 128 = omega (arith, c.args.self.now.few, c.loop-i-test.true) in
+    let here : c.loop-i.i < length c.args.rates.now = omega (arith, c.requires, c.loop-i-test.true) in
     let same = c.loop-i.invariant.above c.loop-i.i (omega arith) in
     elim c.if-is_none.branch [
       | then-is_none+then-lies_inside w ↦
